@@ -1,0 +1,32 @@
+-- Laws of bytes: what a test on a class says, and lower case. Assumes nothing.
+use mathlib.Core.Path.{_≡_, refl, _∙_, sym}
+use Prim.Native.Nat.{ℕ, _+_, _≤_, _<_}
+use mathlib.Core.Bool.{Bool, true, false, _&&_}
+use native.Mathlib.Omega.{arith}
+use lib.Dec.{leb}
+use borrow.Author.Tests.{leb-true, leb-false, le-leb, lt-leb}
+use Rattle.ascii.specs.Bytes.{pick, within, isUpper, lower}
+
+pub and-left : (a b : Bool) → a && b ≡ true → a ≡ true
+and-left true b e = refl
+and-left false b e = e
+
+pub and-right : (a b : Bool) → a && b ≡ true → b ≡ true
+and-right true b e = e
+and-right false b e = absurd (let z : _≡_ {A = ℕ} 0 1 = cc in omega arith)
+
+module _ (low high b : ℕ) where
+  pub within-low : within low high b ≡ true → low ≤ b
+  within-low e = leb-true low b (and-left (leb low b) (leb b high) e)
+
+  pub within-high : within low high b ≡ true → b ≤ high
+  within-high e = leb-true b high (and-right (leb low b) (leb b high) e)
+
+-- lower case, by the test that the code makes
+pub lower-upper : (b : ℕ) (t : Bool) → t ≡ isUpper b → t ≡ true → b + 32 ≡ lower b
+unfolding lower pick
+lower-upper b t e f = let u : isUpper b ≡ true = sym e ∙ f in rw u
+
+pub lower-other : (b : ℕ) (t : Bool) → t ≡ isUpper b → t ≡ false → b ≡ lower b
+unfolding lower pick
+lower-other b t e f = let u : isUpper b ≡ false = sym e ∙ f in rw u

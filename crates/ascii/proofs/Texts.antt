@@ -1,0 +1,96 @@
+-- Laws of texts: comparing, lower case, parts. Assumes nothing.
+use mathlib.Core.Path.{_≡_, refl, ap, _∙_, sym}
+use Prim.Native.Nat.{ℕ, _+_, _-_, _≤_, _<_}
+use mathlib.Core.List.{List, [], _∷_, _++_}
+use mathlib.Core.Bool.{Bool, true, false, _&&_}
+use native.Mathlib.Omega.{arith}
+use native.Mathlib.Numerals.{add-one}
+use lib.ListN.{length, getD, take, drop, drop-of-length-le}
+use lib.Seq.{drop-cons, take-length}
+use lib.Dec.{eqb}
+use borrow.Author.Tests.{eq-eqb, ne-eqb, eqb-true, le-leb, lt-leb}
+use borrow.Author.Needs.{needs}
+use Rattle.ascii.specs.Bytes.{pick}
+use Rattle.ascii.specs.Texts.{each, sameBy, sameBytes, partOf}
+
+-- a comparison says that the texts are the same, and the other way round
+pub same-is : (f : ℕ → ℕ) (a b : List ℕ) → sameBy f a b ≡ true → each f a ≡ b
+unfolding sameBy each pick
+same-is f [] [] e = refl
+same-is f [] (y ∷ ys) e = absurd (let z : _≡_ {A = ℕ} 0 1 = cc in omega arith)
+same-is f (x ∷ xs) [] e = absurd (let z : _≡_ {A = ℕ} 0 1 = cc in omega arith)
+same-is f (x ∷ xs) (y ∷ ys) e = go (eqb (f x) y) refl e (λ h. same-is f xs ys h)
+  where
+    go : (b : Bool) → eqb (f x) y ≡ b → pick b (sameBy f xs ys) false ≡ true → (sameBy f xs ys ≡ true → each f xs ≡ ys) → f x ∷ each f xs ≡ y ∷ ys
+    go true t h ih = let u : f x ≡ y = eqb-true (f x) y t in let v : each f xs ≡ ys = ih h in cc
+    go false t h ih = absurd (let z : _≡_ {A = ℕ} 0 1 = cc in omega arith)
+
+pub is-same : (f : ℕ → ℕ) (a : List ℕ) → sameBy f a (each f a) ≡ true
+unfolding sameBy each pick
+is-same f [] = refl
+is-same f (x ∷ xs) = rw (eq-eqb (f x) (f x) refl) (is-same f xs)
+
+pub each-id : (a : List ℕ) → each (λ x. x) a ≡ a
+unfolding each
+each-id [] = refl
+each-id (x ∷ xs) = ap (λ (l : List ℕ). x ∷ l) (each-id xs)
+
+pub bytes-same : (a b : List ℕ) → sameBytes a b ≡ true → a ≡ b
+bytes-same a b e = sym (each-id a) ∙ same-is (λ x. x) a b e
+
+pub same-bytes : (a : List ℕ) → sameBytes a a ≡ true
+same-bytes a = rw each-id at (is-same (λ x. x) a)
+
+-- comparing in lower case is lower case, compared
+pub same-each : (f : ℕ → ℕ) (a b : List ℕ) → sameBy f a b ≡ sameBytes (each f a) b
+unfolding sameBy each
+same-each f [] [] = refl
+same-each f [] (y ∷ ys) = refl
+same-each f (x ∷ xs) [] = refl
+same-each f (x ∷ xs) (y ∷ ys) = rw (same-each f xs ys)
+
+-- how a comparison goes by one place
+module _ (f : ℕ → ℕ) (a b : List ℕ) (i : ℕ) (r : Bool) where
+  pub same-end : length a ≤ i → length b ≤ i → sameBy f (drop i a) (drop i b) ≡ r → true ≡ r
+  unfolding sameBy
+  same-end h g e = rw (drop-of-length-le a h, drop-of-length-le b g) at e
+
+  pub same-long : length a ≤ i → i < length b → sameBy f (drop i a) (drop i b) ≡ r → false ≡ r
+  unfolding sameBy
+  same-long h g e = rw (drop-of-length-le a h, drop-cons b i 0 g) at e
+
+  pub same-short : i < length a → length b ≤ i → sameBy f (drop i a) (drop i b) ≡ r → false ≡ r
+  unfolding sameBy
+  same-short h g e = rw (drop-cons a i 0 h, drop-of-length-le b g) at e
+
+  pub same-more : (x : ℕ) → x ≡ f (getD a i 0) → i < length a → i < length b → x ≡ getD b i 0 → sameBy f (drop i a) (drop i b) ≡ r → sameBy f (drop (i + 1) a) (drop (i + 1) b) ≡ r
+  unfolding sameBy pick
+  same-more x u h g q e = simp add-one (rw (drop-cons a i 0 h, drop-cons b i 0 g, eq-eqb _ _ (sym u ∙ q)) at e)
+
+  pub same-ne : (x : ℕ) → x ≡ f (getD a i 0) → i < length a → i < length b → (x ≡ getD b i 0 → ⊥) → sameBy f (drop i a) (drop i b) ≡ r → false ≡ r
+  unfolding sameBy pick
+  same-ne x u h g q e = rw (drop-cons a i 0 h, drop-cons b i 0 g, ne-eqb _ _ (λ z. q (u ∙ z))) at e
+
+-- the same, compared byte for byte
+module _ (a b : List ℕ) (i : ℕ) (r : Bool) where
+  pub byte-more : i < length a → i < length b → getD a i 0 ≡ getD b i 0 → sameBytes (drop i a) (drop i b) ≡ r → sameBytes (drop (i + 1) a) (drop (i + 1) b) ≡ r
+  byte-more h g q e = same-more (λ x. x) a b i r (getD a i 0) refl h g q e
+
+  pub byte-ne : i < length a → i < length b → (getD a i 0 ≡ getD b i 0 → ⊥) → sameBytes (drop i a) (drop i b) ≡ r → false ≡ r
+  byte-ne h g q e = same-ne (λ x. x) a b i r (getD a i 0) refl h g q e
+
+pub ruleset sames = (same-end, same-long, same-short, byte-more, byte-ne, needs)
+
+-- a part that lies in the text, and one that doesn't
+module _ (s : List ℕ) (a e : ℕ) where
+  pub part-in : a ≤ e → e ≤ length s → take (e - a) (drop a s) ≡ partOf s a e
+  unfolding partOf pick
+  part-in h g = rw (le-leb a e h, le-leb e (length s) g)
+
+  pub part-turned : e < a → [] ≡ partOf s a e
+  unfolding partOf pick
+  part-turned h = rw (lt-leb a e h)
+
+  pub part-over : a ≤ e → length s < e → [] ≡ partOf s a e
+  unfolding partOf pick
+  part-over h g = rw (le-leb a e h, lt-leb e (length s) g)

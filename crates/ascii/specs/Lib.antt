@@ -1,0 +1,5 @@
+pub mod Bytes
+pub mod Classes
+pub mod Texts
+pub mod Reading
+pub mod Places

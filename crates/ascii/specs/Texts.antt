@@ -1,0 +1,35 @@
+-- Texts, as lists of bytes: compared, in lower case, cut.
+use Prim.Native.Nat.{ℕ, _-_}
+use mathlib.Core.List.{List, [], _∷_}
+use mathlib.Core.Bool.{Bool, true, false, _&&_}
+use lib.ListN.{length, take, drop}
+use lib.Dec.{leb, eqb}
+use Rattle.ascii.specs.Bytes.{pick, lower}
+
+-- every byte of a text, changed
+unfoldable pub each : (ℕ → ℕ) → List ℕ → List ℕ
+each f [] = []
+each f (x ∷ xs) = f x ∷ each f xs
+
+-- a text with its letters in ASCII lower case
+abbrev pub lowered : List ℕ → List ℕ
+lowered s = each lower s
+
+-- whether a text, each byte changed, is another
+unfoldable pub sameBy : (ℕ → ℕ) → List ℕ → List ℕ → Bool
+sameBy f [] [] = true
+sameBy f [] (y ∷ ys) = false
+sameBy f (x ∷ xs) [] = false
+sameBy f (x ∷ xs) (y ∷ ys) = pick (eqb (f x) y) (sameBy f xs ys) false
+
+-- compared byte for byte
+abbrev pub sameBytes : List ℕ → List ℕ → Bool
+sameBytes a b = sameBy (λ x. x) a b
+
+-- compared ignoring the case of the first
+abbrev pub sameLowered : List ℕ → List ℕ → Bool
+sameLowered a b = sameBy lower a b
+
+-- the part of a text from a place up to another; empty where that is no part of it
+unfoldable pub partOf : List ℕ → ℕ → ℕ → List ℕ
+partOf s a e = pick (leb a e && leb e (length s)) (take (e - a) (drop a s)) []
