@@ -6,8 +6,8 @@ use mathlib.Core.Option.{Option, some, none}
 use mathlib.Core.Bool.{Bool, true, false, not, _||_}
 use native.Mathlib.Omega.{arith}
 use native.Mathlib.Numerals.{add-one}
-use lib.ListN.{length, getD, drop, drop-of-length-le, length-drop, length-append}
-use lib.Seq.{drop-cons, drop-drop}
+use lib.ListN.{length, getD, take, drop, drop-of-length-le, length-drop, length-append}
+use lib.Seq.{drop-cons, drop-drop, take-at}
 use lib.Dec.{eqb, leb}
 use borrow.Author.Tests.{eq-eqb, ne-eqb, not-true, not-false, le-leb, lt-leb, leb-true, leb-false}
 use borrow.Author.Needs.{needs}
@@ -307,3 +307,10 @@ done-high t q e = ap highTurn e
 pub ruleset lows = (arith, low-at, go-low, done-low)
 
 pub ruleset highs = (arith, high-at, go-high, done-high)
+
+-- a run is the part up to where it ends
+pub run-part : (p : ℕ → Bool) (s : List ℕ) (i e : ℕ) → i ≤ length s → drop e s ≡ past p (drop i s) → min i (length s) ≤ e → e ≤ length s → take (e - i) (drop i s) ≡ runOf p (drop i s)
+run-part p s i e j h a b =
+    let c : drop i s ≡ runOf p (drop i s) ++ drop e s = rw h (run-cut p (drop i s)) in
+    let n : length (runOf p (drop i s)) ≡ e - i = omega (arith, sym (length-drop i s) ∙ ap length c, length-append (runOf p (drop i s)) (drop e s), length-drop e s) in
+    ap (take (e - i)) c ∙ take-at (runOf p (drop i s)) (drop e s) (e - i) n

@@ -1,0 +1,151 @@
+-- Numbers in decimal: read digit by digit, and written. Assumes nothing.
+use mathlib.Core.Path.{_≡_, refl, ap, _∙_, sym}
+use Prim.Native.Nat.{ℕ, zero, suc, _+_, _-_, _*_, _^_, _/_, _%_, _≤_, _<_}
+use mathlib.Core.List.{List, [], _∷_, _++_}
+use mathlib.Core.Bool.{Bool, true, false, not, _&&_}
+use mathlib.Core.Option.{Option, some, none}
+use native.Mathlib.Omega.{arith}
+use native.Mathlib.Nat.{lt-of-lt-of-le}
+use native.Mathlib.Numerals.{add-one}
+use lib.ListN.{length, getD, drop, drop-of-length-le}
+use lib.Seq.{drop-cons}
+use lib.Dec.{leb, ltb, eqb}
+use borrow.Author.Tests.{lt-ltb, eqb-false, le-leb, lt-leb, leb-true, leb-false, not-true, not-false}
+use Rattle.limits.specs.Limits.{lastPort, portDigits}
+use Rattle.ascii.specs.Bytes.{pick, isDigit}
+use Rattle.ascii.specs.Reading.{isEmpty, headOf}
+use Rattle.ascii.proofs.Bytes.{and-left, and-right, within-low, within-high}
+use Rattle.origins.specs.Hosts.{every}
+use Rattle.origins.specs.Ports.{decimalFrom, decimal, isNumber, isPortPart, leadsZero}
+use Rattle.origins.specs.Steps.{portNumber, digitsAs}
+use Rattle.origins.specs.declared.Digits.{Digits}
+use Rattle.origins.specs.declared.Digits.the-variants as digits
+
+pub decimal-grows : (n : ℕ) (ds : List ℕ) → n ≤ decimalFrom n ds
+unfolding decimalFrom
+decimal-grows n [] = omega arith
+decimal-grows n (d ∷ ds) = omega (arith, decimal-grows (n * 10 + (d - 48)) ds)
+
+-- the reading of digits that stops where the number is too great
+unfoldable pub readFrom : ℕ → List ℕ → Option ℕ
+readFrom n [] = some n
+readFrom n (d ∷ ds) = pick (isDigit d) (pick (leb (n * 10 + (d - 48)) lastPort) (readFrom (n * 10 + (d - 48)) ds) none) none
+
+and-false : (a : Bool) → a && false ≡ false
+and-false true = refl
+and-false false = refl
+
+pub read-is : (n : ℕ) (ds : List ℕ) → n ≤ lastPort → readFrom n ds ≡ pick (every isDigit ds && leb (decimalFrom n ds) lastPort) (some (decimalFrom n ds)) none
+unfolding readFrom decimalFrom every pick
+read-is n [] h = rw (le-leb n lastPort h)
+read-is n (d ∷ ds) h = go (isDigit d) (leb (n * 10 + (d - 48)) lastPort) refl (λ k. read-is (n * 10 + (d - 48)) ds k)
+  where
+    go : (a b : Bool) → leb (n * 10 + (d - 48)) lastPort ≡ b → (n * 10 + (d - 48) ≤ lastPort → readFrom (n * 10 + (d - 48)) ds ≡ pick (every isDigit ds && leb (decimalFrom (n * 10 + (d - 48)) ds) lastPort) (some (decimalFrom (n * 10 + (d - 48)) ds)) none) → pick a (pick b (readFrom (n * 10 + (d - 48)) ds) none) none ≡ pick (a && every isDigit ds && leb (decimalFrom (n * 10 + (d - 48)) ds) lastPort) (some (decimalFrom (n * 10 + (d - 48)) ds)) none
+    go true true e ih = ih (leb-true (n * 10 + (d - 48)) lastPort e)
+    go true false e ih =
+        let g : lastPort < decimalFrom (n * 10 + (d - 48)) ds = omega (arith, decimal-grows (n * 10 + (d - 48)) ds, leb-false (n * 10 + (d - 48)) lastPort e) in
+        rw (lt-leb (decimalFrom (n * 10 + (d - 48)) ds) lastPort g, and-false (every isDigit ds))
+    go false b e ih = refl
+
+-- one turn of the reading
+module _ (n i : ℕ) (ds : List ℕ) (r : Option ℕ) where
+  pub read-end : length ds ≤ i → readFrom n (drop i ds) ≡ r → some n ≡ r
+  unfolding readFrom
+  read-end h e = rw (drop-of-length-le ds h) at e
+
+  pub read-other : (b : Bool) → b ≡ isDigit (getD ds i 0) → not b ≡ true → i < length ds → readFrom n (drop i ds) ≡ r → none ≡ r
+  unfolding readFrom pick
+  read-other b u t h e = let v : isDigit (getD ds i 0) ≡ false = sym u ∙ not-true b t in rw (drop-cons ds i 0 h, v) at e
+
+  module _ (q : ℕ) (is : q ≡ getD ds i 0 - 48) (b : Bool) (u : b ≡ isDigit (getD ds i 0)) (t : not b ≡ false) (h : i < length ds) (e : readFrom n (drop i ds) ≡ r) where
+    at-digit : pick (leb (n * 10 + q) lastPort) (readFrom (n * 10 + q) (drop (i + 1) ds)) none ≡ r
+    unfolding readFrom pick
+    at-digit = let v : isDigit (getD ds i 0) ≡ true = sym u ∙ not-false b t in rw (is, add-one) (rw (drop-cons ds i 0 h, v) at e)
+
+    pub read-great : lastPort < n * 10 + q → none ≡ r
+    unfolding pick
+    read-great g = rw (lt-leb (n * 10 + q) lastPort g) at at-digit
+
+    pub read-more : n * 10 + q ≤ lastPort → readFrom (n * 10 + q) (drop (i + 1) ds) ≡ r
+    unfolding pick
+    read-more g = rw (le-leb (n * 10 + q) lastPort g) at at-digit
+
+-- a digit's bounds, by the test that the code makes
+module _ (x : ℕ) (b : Bool) (u : b ≡ isDigit x) (t : not b ≡ false) where
+  pub digit-low : 48 ≤ x
+  digit-low = within-low 48 57 x (sym u ∙ not-false b t)
+
+  pub digit-high : x ≤ 57
+  digit-high = within-high 48 57 x (sym u ∙ not-false b t)
+
+-- where the reading starts
+module _ (ds : List ℕ) where
+  pub number-long : portDigits < length ds → portNumber ds ≡ none
+  unfolding portNumber isPortPart pick
+  number-long h = rw (lt-leb (length ds) portDigits h)
+
+  pub number-empty : length ds ≡ 0 → portNumber ds ≡ none
+  unfolding portNumber isPortPart isNumber isEmpty pick
+  number-empty = elim ds [ [] ↦ λ h. refl | x ∷ xs ↦ λ h. absurd (omega arith) ]
+
+  pub number-start : length ds ≤ portDigits → (length ds ≡ 0 → ⊥) → readFrom 0 ds ≡ portNumber ds
+  unfolding portNumber isPortPart isNumber isEmpty pick
+  number-start = elim ds [ [] ↦ λ h g. absurd (g refl) | x ∷ xs ↦ λ h g. read-is 0 (x ∷ xs) (omega arith) ∙ rw (le-leb (length (x ∷ xs)) portDigits h) ]
+
+-- "no leading zero" leaves at most five digits for a number up to 65,535
+six-digits : (a b c d e f : ℕ) → 1 ≤ a → lastPort < (((((0 * 10 + a) * 10 + b) * 10 + c) * 10 + d) * 10 + e) * 10 + f
+six-digits a b c d e f h = omega arith
+
+long-decimal : (ds : List ℕ) → portDigits < length ds → leadsZero ds ≡ false → every isDigit ds ≡ true → lastPort < decimal ds
+unfolding leadsZero every decimalFrom headOf
+long-decimal [] h z e = absurd (omega arith)
+long-decimal (a ∷ []) h z e = absurd (omega arith)
+long-decimal (a ∷ b ∷ []) h z e = absurd (omega arith)
+long-decimal (a ∷ b ∷ c ∷ []) h z e = absurd (omega arith)
+long-decimal (a ∷ b ∷ c ∷ d ∷ []) h z e = absurd (omega arith)
+long-decimal (a ∷ b ∷ c ∷ d ∷ f ∷ []) h z e = absurd (omega arith)
+long-decimal (a ∷ b ∷ c ∷ d ∷ f ∷ g ∷ ds) h z e =
+    let u : 48 ≤ a = within-low 48 57 a (and-left (isDigit a) (every isDigit (b ∷ c ∷ d ∷ f ∷ g ∷ ds)) e) in
+    let v : eqb a 48 ≡ false = rw (lt-ltb 1 (length (a ∷ b ∷ c ∷ d ∷ f ∷ g ∷ ds)) (omega arith)) at z in
+    let w : a ≡ 48 → ⊥ = eqb-false a 48 v in
+    lt-of-lt-of-le (six-digits (a - 48) (b - 48) (c - 48) (d - 48) (f - 48) (g - 48) (omega arith))
+    (decimal-grows ((((((0 * 10 + (a - 48)) * 10 + (b - 48)) * 10 + (c - 48)) * 10 + (d - 48)) * 10 + (f - 48)) * 10 + (g - 48)) ds)
+
+-- what a number's test says
+module _ (ds : List ℕ) (e : isNumber ds ≡ true) where
+  pub number-digits : every isDigit ds ≡ true
+  unfolding isNumber
+  number-digits = and-right (not (isEmpty ds)) (every isDigit ds) (and-left (not (isEmpty ds) && every isDigit ds) (leb (decimal ds) lastPort) e)
+
+  pub number-most : decimal ds ≤ lastPort
+  unfolding isNumber
+  number-most = leb-true (decimal ds) lastPort (and-right (not (isEmpty ds) && every isDigit ds) (leb (decimal ds) lastPort) e)
+
+-- the code's number against the definition's
+pub digits-some : (o : Option ℕ) (r : Digits) (n : ℕ) → r ≡ digitsAs o → r ≡ digits.Number n → o ≡ some n
+digits-some (some m) r n e f = let k : m ≡ n = cc in rw k
+digits-some none r n e f = absurd (let z : _≡_ {A = ℕ} 0 1 = cc in omega arith)
+
+pub digits-none : (o : Option ℕ) (r : Digits) → r ≡ digitsAs o → r ≡ digits.None → o ≡ none
+digits-none (some m) r e f = absurd (let z : _≡_ {A = ℕ} 0 1 = cc in omega arith)
+digits-none none r e f = refl
+
+-- an origin's port: the number that the code reads decides, once no zero leads
+module _ (ds : List ℕ) (z : leadsZero ds ≡ false) where
+  pub port-some : (n : ℕ) → portNumber ds ≡ some n → (isNumber ds ≡ true) × (decimal ds ≡ n)
+  unfolding portNumber isPortPart pick
+  port-some n e = go (leb (length ds) portDigits) (isNumber ds) refl e
+    where
+      go : (a b : Bool) → isNumber ds ≡ b → pick (a && b) (some (decimal ds)) none ≡ some n → (isNumber ds ≡ true) × (decimal ds ≡ n)
+      go true true u f = (u, cc)
+      go true false u f = absurd (let q : _≡_ {A = ℕ} 0 1 = cc in omega arith)
+      go false b u f = absurd (let q : _≡_ {A = ℕ} 0 1 = cc in omega arith)
+
+  pub port-none : portNumber ds ≡ none → isNumber ds ≡ false
+  unfolding portNumber isPortPart pick
+  port-none e = go (leb (length ds) portDigits) (isNumber ds) refl refl e
+    where
+      go : (a b : Bool) → leb (length ds) portDigits ≡ a → isNumber ds ≡ b → pick (a && b) (some (decimal ds)) none ≡ none → b ≡ false
+      go a false t u f = refl
+      go true true t u f = absurd (let q : _≡_ {A = ℕ} 0 1 = cc in omega arith)
+      go false true t u f = absurd (omega (arith, long-decimal ds (leb-false (length ds) portDigits t) z (number-digits ds u), number-most ds u))

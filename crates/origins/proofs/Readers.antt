@@ -1,0 +1,83 @@
+-- The whole readings of origin texts and expressions, test by test. Assumes nothing.
+use mathlib.Core.Path.{_≡_, refl, ap, _∙_, sym}
+use Prim.Native.Nat.{ℕ, _≤_, min}
+use mathlib.Core.List.{List, [], _∷_}
+use mathlib.Core.Bool.{Bool, true, false}
+use mathlib.Core.Option.{some}
+use native.Mathlib.Omega.{arith}
+use lib.ListN.{length, take, drop, length-take}
+use Rattle.ascii.specs.Bytes.{pick, lower}
+use Rattle.ascii.specs.Literals
+use Rattle.ascii.specs.Texts.{each, sameBytes, sameLowered}
+use Rattle.ascii.specs.Reading.{isEmpty}
+use Rattle.ascii.proofs.Texts.{same-is}
+use Rattle.origins.specs.Origins.{schemeText, schemeSlashes, nullText, startsWith, tupleOf, originOf}
+use Rattle.origins.specs.Expressions.{schemeSource, startsLowered, hostSourceOf, expressionOf}
+use Rattle.origins.specs.Answers.{originAs, sourceAs}
+use Rattle.origins.specs.declared.Scheme.the-variants.{Http, Https}
+use Rattle.origins.specs.declared.OriginText.{OriginText}
+use Rattle.origins.specs.declared.OriginText.the-variants as text
+use Rattle.origins.specs.declared.Source.{Source}
+use Rattle.origins.specs.declared.Source.the-variants as source
+use Rattle.origins.proofs.Steps.{each-length}
+use Rattle.origins.proofs.Ports.{empty-yes, empty-no}
+
+-- a text that begins with another is at least as long
+module _ (t s : List ℕ) (b : Bool) where
+  pub starts-long : b ≡ startsWith t s → b ≡ true → length t ≤ length s
+  unfolding startsWith
+  starts-long e f =
+      omega (arith, ap length (same-is (λ x. x) (take (length t) s) t (sym e ∙ f)), each-length (λ x. x) (take (length t) s), length-take (length t) s)
+
+  pub starts-lowered-long : b ≡ startsLowered t s → b ≡ true → length t ≤ length s
+  unfolding startsLowered
+  starts-lowered-long e f =
+      omega (arith, ap length (same-is lower (take (length t) s) t (sym e ∙ f)), each-length lower (take (length t) s), length-take (length t) s)
+
+module _ (s : List ℕ) where
+  pub origin-empty : length s ≡ 0 → text.Empty ≡ originAs (originOf s)
+  unfolding originOf pick
+  origin-empty h = rw (empty-yes s h)
+
+  module _ (h : length s ≡ 0 → ⊥) (a : Bool) (u : a ≡ sameBytes s nullText) where
+    pub origin-null : a ≡ true → text.Null ≡ originAs (originOf s)
+    unfolding originOf pick
+    origin-null v = rw (empty-no s h, ← u, v)
+
+    module _ (v : a ≡ false) (b : Bool) (w : b ≡ startsWith (schemeSlashes Http) s) where
+      pub origin-http : b ≡ true → (r : OriginText) → r ≡ originAs (tupleOf Http (drop 7 s)) → r ≡ originAs (originOf s)
+      unfolding originOf pick
+      origin-http x r y = rw (empty-no s h, ← u, v, ← w, x) y
+
+      module _ (x : b ≡ false) (c : Bool) (y : c ≡ startsWith (schemeSlashes Https) s) where
+        pub origin-https : c ≡ true → (r : OriginText) → r ≡ originAs (tupleOf Https (drop 8 s)) → r ≡ originAs (originOf s)
+        unfolding originOf pick
+        origin-https z r e = rw (empty-no s h, ← u, v, ← w, x, ← y, z) e
+
+        pub origin-other : c ≡ false → text.NotAnOrigin ≡ originAs (originOf s)
+        unfolding originOf pick
+        origin-other z = rw (empty-no s h, ← u, v, ← w, x, ← y, z)
+
+  module _ (a : Bool) (u : a ≡ sameLowered s (schemeText Http)) where
+    pub source-http : a ≡ true → (r : Source) → r ≡ sourceAs (some (schemeSource Http)) → r ≡ sourceAs (expressionOf s)
+    unfolding expressionOf pick
+    source-http v r e = rw (← u, v) e
+
+    module _ (v : a ≡ false) (b : Bool) (w : b ≡ sameLowered s (schemeText Https)) where
+      pub source-https : b ≡ true → (r : Source) → r ≡ sourceAs (some (schemeSource Https)) → r ≡ sourceAs (expressionOf s)
+      unfolding expressionOf pick
+      source-https x r e = rw (← u, v, ← w, x) e
+
+      module _ (x : b ≡ false) (c : Bool) (y : c ≡ startsLowered (schemeSlashes Http) s) where
+        pub source-http-host : c ≡ true → (r : Source) → r ≡ sourceAs (hostSourceOf Http (drop 7 s)) → r ≡ sourceAs (expressionOf s)
+        unfolding expressionOf pick
+        source-http-host z r e = rw (← u, v, ← w, x, ← y, z) e
+
+        module _ (z : c ≡ false) (d : Bool) (f : d ≡ startsLowered (schemeSlashes Https) s) where
+          pub source-https-host : d ≡ true → (r : Source) → r ≡ sourceAs (hostSourceOf Https (drop 8 s)) → r ≡ sourceAs (expressionOf s)
+          unfolding expressionOf pick
+          source-https-host g r e = rw (← u, v, ← w, x, ← y, z, ← f, g) e
+
+          pub source-other : d ≡ false → source.NotAnExpression ≡ sourceAs (expressionOf s)
+          unfolding expressionOf pick
+          source-other g = rw (← u, v, ← w, x, ← y, z, ← f, g)

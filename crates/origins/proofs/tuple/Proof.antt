@@ -1,0 +1,25 @@
+-- `tuple` is right: the run up to a colon is the host, what is left is the port, and both are read as in the definition.
+use native.Mathlib.Omega.{arith}
+use borrow.Author.Needs.{needs}
+use Rattle.origins.proofs.Sources.{tuple-no-host, tuple-no-port, tuple-is}
+use Rattle.origins.proofs.tuple.Statement.{statement}
+use Rattle.origins.proofs.tuple.Tie as tie
+
+pub tuple-spec : {M : Type 1} → statement M
+tuple-spec =
+    tie.close
+    (tie.spec
+    (λ c κs. search needs)
+    (λ c. search needs)
+    (λ c. search needs)
+    (λ c. search needs)
+    (λ c κs. search needs)
+    (λ c. search tuple-no-host)
+    (λ c. search needs)
+    (λ c. search needs)
+    (λ c. search needs)
+    (λ c κs. search needs)
+    (λ c. search needs)
+    (λ c. search needs)
+    (λ c. search tuple-is)
+    (λ c. search tuple-no-port))

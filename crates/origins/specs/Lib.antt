@@ -1,0 +1,9 @@
+pub mod Hosts
+pub mod Ports
+pub mod Origins
+pub mod Expressions
+pub mod Matching
+pub mod NormalForms
+pub mod Answers
+pub mod Steps
+pub mod Examples

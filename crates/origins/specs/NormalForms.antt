@@ -1,0 +1,55 @@
+-- 01, "Tidied headers": an expression's normal form, "lower case, no leading zeros, default port dropped"; and an origin's text.
+use Prim.Native.Nat.{ℕ, zero, suc, _+_, _/_, _%_}
+use mathlib.Core.List.{List, [], _∷_, _++_}
+use mathlib.Core.Bool.{Bool, true, false}
+use lib.Dec.{ltb, eqb}
+use Rattle.limits.specs.Limits.{portDigits}
+use Rattle.ascii.specs.Bytes.{pick}
+use Rattle.origins.specs.Ports.{defaultPort}
+use Rattle.origins.specs.Origins.{TupleOrigin, schemeText, schemeSlashes}
+use Rattle.origins.specs.Expressions.{HostPart, SourceExpression}
+use Rattle.origins.specs.Expressions.HostPart.{noHost, anyHost, exactHost, subdomainsOf}
+use Rattle.origins.specs.declared.Scheme.{Scheme}
+use Rattle.origins.specs.declared.PortPart.{PortPart}
+use Rattle.origins.specs.declared.PortPart.the-variants.{Default, Any, Number}
+
+-- a number in decimal without leading zeros, its last so many digits
+unfoldable pub lastDigits : ℕ → ℕ → List ℕ
+lastDigits zero n = []
+lastDigits (suc k) n = pick (ltb n 10) ((48 + n) ∷ []) (lastDigits k (n / 10) ++ ((48 + n % 10) ∷ []))
+
+abbrev pub portText : ℕ → List ℕ
+portText n = lastDigits portDigits n
+
+unfoldable pub portPartText : PortPart → List ℕ
+portPartText Default = []
+portPartText Any = 58 ∷ 42 ∷ []
+portPartText (Number n) = 58 ∷ portText n
+
+unfoldable pub expressionPartsText : Scheme → HostPart → PortPart → List ℕ
+expressionPartsText k noHost p = schemeText k
+expressionPartsText k anyHost p = schemeSlashes k ++ (42 ∷ portPartText p)
+expressionPartsText k (exactHost h) p = schemeSlashes k ++ (h ++ portPartText p)
+expressionPartsText k (subdomainsOf h) p = schemeSlashes k ++ (42 ∷ 46 ∷ (h ++ portPartText p))
+
+-- an expression as a text
+abbrev pub expressionText : SourceExpression → List ℕ
+expressionText e = expressionPartsText (e .scheme) (e .host) (e .port)
+
+unfoldable pub normalPort : Scheme → PortPart → PortPart
+normalPort k Default = Default
+normalPort k Any = Any
+normalPort k (Number n) = pick (eqb n (defaultPort k)) Default (Number n)
+
+-- the default port dropped
+unfoldable pub normal : SourceExpression → SourceExpression
+normal e = record { scheme = e .scheme; host = e .host; port = normalPort (e .scheme) (e .port) }
+
+-- the normal form of an expression
+abbrev pub normalForm : SourceExpression → List ℕ
+normalForm e = expressionText (normal e)
+
+-- a tuple origin's text
+unfoldable pub originText : TupleOrigin → List ℕ
+originText o =
+    schemeSlashes (o .scheme) ++ (o .host ++ pick (eqb (o .port) (defaultPort (o .scheme))) [] (58 ∷ portText (o .port)))

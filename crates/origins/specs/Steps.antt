@@ -1,0 +1,40 @@
+-- What the private functions answer: steps of the readings.
+use Prim.Native.Nat.{ℕ}
+use mathlib.Core.List.{List}
+use mathlib.Core.Bool.{Bool, true, false}
+use mathlib.Core.Option.{Option, some, none}
+use Rattle.ascii.specs.Bytes.{pick, lower}
+use Rattle.origins.specs.Ports.{decimal, isPortPart}
+use Rattle.origins.specs.Expressions.{HostPart}
+use Rattle.origins.specs.Expressions.HostPart.{noHost, anyHost, exactHost, subdomainsOf}
+use Rattle.origins.specs.declared.PortPart.{PortPart}
+use Rattle.origins.specs.declared.Digits.{Digits}
+use Rattle.origins.specs.declared.Digits.the-variants as digits
+use Rattle.origins.specs.declared.PortRead.{PortRead}
+use Rattle.origins.specs.declared.PortRead.the-variants as port
+use Rattle.origins.specs.declared.HostRead.{HostRead}
+use Rattle.origins.specs.declared.HostRead.the-variants as host
+
+-- a byte as it is compared: in lower case where case is ignored
+unfoldable pub fold : Bool → ℕ → ℕ
+fold true b = lower b
+fold false b = b
+
+-- one to five digits worth at most 65,535
+unfoldable pub portNumber : List ℕ → Option ℕ
+portNumber ds = pick (isPortPart ds) (some (decimal ds)) none
+
+abbrev pub digitsAs : Option ℕ → Digits
+digitsAs (some n) = digits.Number n
+digitsAs none = digits.None
+
+abbrev pub portAs : Option PortPart → PortRead
+portAs (some p) = port.Part p
+portAs none = port.None
+
+abbrev pub hostAs : Option HostPart → HostRead
+hostAs (some noHost) = host.None
+hostAs (some anyHost) = host.Any
+hostAs (some (exactHost h)) = host.Exact
+hostAs (some (subdomainsOf h)) = host.Subdomains
+hostAs none = host.None

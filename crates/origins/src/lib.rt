@@ -1,0 +1,494 @@
+// Origin texts and source expressions: what a text says, and whether an expression admits an origin.
+ghost use mathlib.Core.Path.{_≡_};
+ghost use mathlib.Core.List.{_∷_};
+ghost use Prim.Native.Nat.{_≤_, _-_};
+ghost use lib.ListN.{length, drop};
+ghost use mathlib.Core.Option.{some};
+ghost use Rattle.ascii.specs.Texts.{lowered, each};
+ghost use Rattle.origins.specs.Hosts.{every, labels, isLabel, isHost};
+ghost use Rattle.origins.specs.Ports.{defaultPort, leadsZero, originPort, portPartOf};
+ghost use Rattle.origins.specs.Origins.{schemeSlashes, startsWith, originOf, tupleOf};
+ghost use Rattle.origins.specs.Expressions.{schemeSource, startsLowered, hostPartOf, hostSourceOf, expressionOf};
+ghost use Rattle.origins.specs.Steps.{fold, portNumber, digitsAs, portAs, hostAs};
+ghost use Rattle.origins.specs.Matching.{sameScheme, endsIn, portAdmits, admitsTuple, admits, sameTuple, sameOrigin};
+ghost use Rattle.origins.specs.Answers.{originAs, sourceAs, tupleIn, originIn, expressionIn};
+use ascii::Class;
+use limits::HOST_BYTES;
+use limits::LAST_PORT;
+use limits::PORT_DIGITS;
+
+pub enum Scheme {
+    Http,
+    Https,
+}
+
+// A tuple origin: its host is a range of the origin's text.
+pub struct TupleRange {
+    pub scheme: Scheme,
+    pub from: usize,
+    pub to: usize,
+    pub port: u32,
+}
+
+// What an origin text says.
+pub enum OriginText {
+    Empty,
+    Null,
+    Tuple(TupleRange),
+    NotAnOrigin,
+}
+
+// An origin that is asked about: a tuple, an opaque one by its number, or a fresh opaque one.
+pub enum OriginRange {
+    Tuple(TupleRange),
+    Opaque(u32),
+    Fresh,
+}
+
+pub enum HostKind {
+    // a scheme alone
+    None,
+    // `*`
+    Any,
+    Exact,
+    // `*.` and a host
+    Subdomains,
+}
+
+pub enum PortPart {
+    Default,
+    // `:*`
+    Any,
+    Number(u32),
+}
+
+// A source expression: its host, where it has one, is a range of the expression's text.
+pub struct ExpressionRange {
+    pub scheme: Scheme,
+    pub host: HostKind,
+    pub from: usize,
+    pub to: usize,
+    pub port: PortPart,
+}
+
+pub enum Source {
+    Expression(ExpressionRange),
+    NotAnExpression,
+}
+
+fn default_port(k: Scheme) -> u32
+    ensures { λ r. ⌜ r ≡ defaultPort k ⌝ }
+{
+    match k {
+        Scheme::Http => 80,
+        Scheme::Https => 443,
+    }
+}
+
+// A byte as it is compared: in lower case where case is ignored.
+fn folded(b: u8, anycase: bool) -> u8
+    ensures { λ r. ⌜ r ≡ fold anycase b ⌝ }
+{
+    if anycase { ascii::lower(b) } else { b }
+}
+
+// Whether every label of a text is good; `anycase`: its letters in lower case.
+fn labels_good(h: &[u8], anycase: bool) -> bool
+    ensures { λ r. ⌜ r ≡ every isLabel (labels (each (fold anycase) (now (h .entry)))) ⌝ }
+{
+    let mut i: usize = 0;
+    let mut fresh = true;
+    while i < h.len() {
+        let b = folded(h[i], anycase);
+        if b == b'.' {
+            if fresh {
+                return false;
+            }
+            fresh = true;
+            i += 1;
+        } else {
+            if !ascii::is_label_byte(b) {
+                return false;
+            }
+            fresh = false;
+            i += 1;
+        }
+    }
+    !fresh
+}
+
+// Whether a text is a host; `anycase`: its letters in lower case.
+fn is_host(h: &[u8], anycase: bool) -> bool
+    ensures { λ r. ⌜ r ≡ isHost (each (fold anycase) (now (h .entry))) ⌝ }
+{
+    if h.len() == 0 {
+        return false;
+    }
+    if HOST_BYTES < h.len() {
+        return false;
+    }
+    labels_good(h, anycase)
+}
+
+// A port's digits, read.
+enum Digits {
+    Number(u32),
+    None,
+}
+
+// The value of a digit.
+fn digit(b: u8) -> u32
+    requires { ⌜ (48 ≤ b) × (b ≤ 57) ⌝ }
+    ensures { λ r. ⌜ r ≡ b - 48 ⌝ }
+{
+    (b - 48) as u32
+}
+
+// One to five digits, read in decimal, worth at most 65,535.
+fn number(d: &[u8]) -> Digits
+    ensures { λ r. ⌜ r ≡ digitsAs (portNumber (now (d .entry))) ⌝ }
+{
+    if PORT_DIGITS < d.len() {
+        return Digits::None;
+    }
+    if d.len() == 0 {
+        return Digits::None;
+    }
+    let mut n: u32 = 0;
+    let mut i: usize = 0;
+    while i < d.len() {
+        let b = d[i];
+        if !ascii::is_digit(b) {
+            return Digits::None;
+        }
+        let m = n * 10 + digit(b);
+        if LAST_PORT < m {
+            return Digits::None;
+        }
+        n = m;
+        i += 1;
+    }
+    Digits::Number(n)
+}
+
+fn leads_zero(d: &[u8]) -> bool
+    ensures { λ r. ⌜ r ≡ leadsZero (now (d .entry)) ⌝ }
+{
+    if 1 < d.len() { d[0] == b'0' } else { false }
+}
+
+// The port of an origin text, from what follows its host.
+fn origin_port(p: &[u8], k: Scheme) -> Digits
+    ensures { λ r. ⌜ r ≡ digitsAs (originPort k (now (p .entry))) ⌝ }
+{
+    if p.len() == 0 {
+        return Digits::Number(default_port(k));
+    }
+    let d = &p[1..];
+    if leads_zero(d) {
+        return Digits::None;
+    }
+    match number(d) {
+        Digits::Number(n) => {
+            if n == default_port(k) {
+                Digits::None
+            } else {
+                Digits::Number(n)
+            }
+        }
+        Digits::None => Digits::None,
+    }
+}
+
+// A tuple origin, past its scheme and `://`.
+fn tuple(s: &[u8], from: usize, k: Scheme) -> OriginText
+    requires { ⌜ (from ≡ length (schemeSlashes k)) × (from ≤ length (now s)) ⌝ }
+    ensures { λ r. ⌜ r ≡ originAs (tupleOf k (drop from (now (s .entry)))) ⌝ }
+{
+    let to = ascii::run_end(s, from, Class::Not(b':'));
+    if !is_host(&s[from..to], false) {
+        return OriginText::NotAnOrigin;
+    }
+    match origin_port(&s[to..], k) {
+        Digits::Number(n) => OriginText::Tuple(TupleRange {
+            scheme: k,
+            from,
+            to,
+            port: n,
+        }),
+        Digits::None => OriginText::NotAnOrigin,
+    }
+}
+
+// Whether a text begins with another.
+fn starts_with(s: &[u8], t: &[u8]) -> bool
+    ensures { λ r. ⌜ r ≡ startsWith (now (t .entry)) (now (s .entry)) ⌝ }
+{
+    let n = ascii::place(s, t.len());
+    ascii::same(&s[..n], t)
+}
+
+// What an origin text says.
+pub fn origin_text(s: &[u8]) -> OriginText
+    ensures { λ r. ⌜ r ≡ originAs (originOf (now (s .entry))) ⌝ }
+{
+    if s.len() == 0 {
+        return OriginText::Empty;
+    }
+    if ascii::same(s, b"null") {
+        return OriginText::Null;
+    }
+    if starts_with(s, b"http://") {
+        return tuple(s, 7, Scheme::Http);
+    }
+    if starts_with(s, b"https://") {
+        return tuple(s, 8, Scheme::Https);
+    }
+    OriginText::NotAnOrigin
+}
+
+// An expression's port-part, read.
+enum PortRead {
+    Part(PortPart),
+    None,
+}
+
+// The port-part of an expression, from what follows its host part.
+fn port_part(p: &[u8]) -> PortRead
+    ensures { λ r. ⌜ r ≡ portAs (portPartOf (now (p .entry))) ⌝ }
+{
+    if p.len() == 0 {
+        return PortRead::Part(PortPart::Default);
+    }
+    let d = &p[1..];
+    if ascii::same(d, b"*") {
+        return PortRead::Part(PortPart::Any);
+    }
+    match number(d) {
+        Digits::Number(n) => PortRead::Part(PortPart::Number(n)),
+        Digits::None => PortRead::None,
+    }
+}
+
+// Whether a text, its letters in lower case, begins with another.
+fn starts_lowered(s: &[u8], t: &[u8]) -> bool
+    ensures { λ r. ⌜ r ≡ startsLowered (now (t .entry)) (now (s .entry)) ⌝ }
+{
+    let n = ascii::place(s, t.len());
+    ascii::same_lowered(&s[..n], t)
+}
+
+// An expression's host part, read.
+enum HostRead {
+    Any,
+    Exact,
+    Subdomains,
+    None,
+}
+
+// The host part of an expression, in any case.
+fn host_part(h: &[u8]) -> HostRead
+    ensures { λ r. ⌜ r ≡ hostAs (hostPartOf (lowered (now (h .entry)))) ⌝ }
+{
+    if ascii::same_lowered(h, b"*") {
+        return HostRead::Any;
+    }
+    if starts_lowered(h, b"*.") {
+        if is_host(ascii::part(h, 2, h.len()), true) {
+            return HostRead::Subdomains;
+        }
+        return HostRead::None;
+    }
+    if is_host(h, true) {
+        HostRead::Exact
+    } else {
+        HostRead::None
+    }
+}
+
+// A host-source, past its scheme and `://`.
+fn host_source(s: &[u8], from: usize, k: Scheme) -> Source
+    requires { ⌜ (from ≡ length (schemeSlashes k)) × (from ≤ length (now s)) ⌝ }
+    ensures { λ r. ⌜ r ≡ sourceAs (hostSourceOf k (drop from (now (s .entry)))) ⌝ }
+{
+    let to = ascii::run_end(s, from, Class::Not(b':'));
+    match port_part(&s[to..]) {
+        PortRead::Part(p) => match host_part(&s[from..to]) {
+            HostRead::Any => Source::Expression(ExpressionRange {
+                scheme: k,
+                host: HostKind::Any,
+                from: 0,
+                to: 0,
+                port: p,
+            }),
+            HostRead::Exact => Source::Expression(ExpressionRange {
+                scheme: k,
+                host: HostKind::Exact,
+                from,
+                to,
+                port: p,
+            }),
+            HostRead::Subdomains => Source::Expression(ExpressionRange {
+                scheme: k,
+                host: HostKind::Subdomains,
+                from: from + 2,
+                to,
+                port: p,
+            }),
+            HostRead::None => Source::NotAnExpression,
+        },
+        PortRead::None => Source::NotAnExpression,
+    }
+}
+
+fn scheme_source(k: Scheme) -> Source
+    ensures { λ r. ⌜ r ≡ sourceAs (some (schemeSource k)) ⌝ }
+{
+    Source::Expression(ExpressionRange {
+        scheme: k,
+        host: HostKind::None,
+        from: 0,
+        to: 0,
+        port: PortPart::Default,
+    })
+}
+
+// The expression that a text is, if any.
+pub fn expression(s: &[u8]) -> Source
+    ensures { λ r. ⌜ r ≡ sourceAs (expressionOf (now (s .entry))) ⌝ }
+{
+    if ascii::same_lowered(s, b"http:") {
+        return scheme_source(Scheme::Http);
+    }
+    if ascii::same_lowered(s, b"https:") {
+        return scheme_source(Scheme::Https);
+    }
+    if starts_lowered(s, b"http://") {
+        return host_source(s, 7, Scheme::Http);
+    }
+    if starts_lowered(s, b"https://") {
+        return host_source(s, 8, Scheme::Https);
+    }
+    Source::NotAnExpression
+}
+
+fn same_scheme(a: Scheme, b: Scheme) -> bool
+    ensures { λ r. ⌜ r ≡ sameScheme a b ⌝ }
+{
+    match a {
+        Scheme::Http => match b {
+            Scheme::Http => true,
+            Scheme::Https => false,
+        },
+        Scheme::Https => match b {
+            Scheme::Http => false,
+            Scheme::Https => true,
+        },
+    }
+}
+
+// Whether a host ends in a dot and `x`, in any case, with at least one byte before them.
+fn is_subdomain(x: &[u8], h: &[u8]) -> bool
+    ensures { λ r. ⌜ r ≡ endsIn (46 ∷ lowered (now (x .entry))) (now (h .entry)) ⌝ }
+{
+    let n = x.len();
+    let m = h.len();
+    if m <= n {
+        return false;
+    }
+    let dot = m - n - 1;
+    if dot == 0 {
+        return false;
+    }
+    if h[dot] != b'.' {
+        return false;
+    }
+    let at = dot + 1;
+    ascii::same_lowered(x, &h[at..])
+}
+
+fn port_admits(p: PortPart, k: Scheme, n: u32) -> bool
+    ensures { λ r. ⌜ r ≡ portAdmits p k n ⌝ }
+{
+    match p {
+        PortPart::Default => n == default_port(k),
+        PortPart::Any => true,
+        PortPart::Number(m) => n == m,
+    }
+}
+
+fn admits_tuple(s: &[u8], e: ExpressionRange, t: &[u8], o: TupleRange) -> bool
+    ensures { λ r. ⌜ r ≡ admitsTuple (expressionIn (now (s .entry)) e) (tupleIn (now (t .entry)) o) ⌝ }
+{
+    let own = e.scheme;
+    let scheme = o.scheme;
+    if !same_scheme(own, scheme) {
+        return false;
+    }
+    let kind = e.host;
+    let port = e.port;
+    let x = ascii::part(s, e.from, e.to);
+    let h = ascii::part(t, o.from, o.to);
+    match kind {
+        HostKind::None => true,
+        HostKind::Any => port_admits(port, scheme, o.port),
+        HostKind::Exact => {
+            if ascii::same_lowered(x, h) {
+                port_admits(port, scheme, o.port)
+            } else {
+                false
+            }
+        }
+        HostKind::Subdomains => {
+            if is_subdomain(x, h) {
+                port_admits(port, scheme, o.port)
+            } else {
+                false
+            }
+        }
+    }
+}
+
+// Whether an expression of one text admits an origin of another.
+pub fn admits(s: &[u8], e: ExpressionRange, t: &[u8], o: OriginRange) -> bool
+    ensures { λ r. ⌜ r ≡ admits (expressionIn (now (s .entry)) e) (originIn (now (t .entry)) o) ⌝ }
+{
+    match o {
+        OriginRange::Tuple(r) => admits_tuple(s, e, t, r),
+        OriginRange::Opaque(_) => false,
+        OriginRange::Fresh => false,
+    }
+}
+
+fn same_tuple(s: &[u8], a: TupleRange, t: &[u8], b: TupleRange) -> bool
+    ensures { λ r. ⌜ r ≡ sameTuple (tupleIn (now (s .entry)) a) (tupleIn (now (t .entry)) b) ⌝ }
+{
+    let k = a.scheme;
+    let j = b.scheme;
+    if !same_scheme(k, j) {
+        return false;
+    }
+    if !ascii::same(ascii::part(s, a.from, a.to), ascii::part(t, b.from, b.to)) {
+        return false;
+    }
+    a.port == b.port
+}
+
+// Whether an origin of one text is the same as an origin of another.
+pub fn same_origin(s: &[u8], a: OriginRange, t: &[u8], b: OriginRange) -> bool
+    ensures { λ r. ⌜ r ≡ sameOrigin (originIn (now (s .entry)) a) (originIn (now (t .entry)) b) ⌝ }
+{
+    match a {
+        OriginRange::Tuple(x) => match b {
+            OriginRange::Tuple(y) => same_tuple(s, x, t, y),
+            OriginRange::Opaque(_) => false,
+            OriginRange::Fresh => false,
+        },
+        OriginRange::Opaque(m) => match b {
+            OriginRange::Tuple(_) => false,
+            OriginRange::Opaque(n) => m == n,
+            OriginRange::Fresh => false,
+        },
+        OriginRange::Fresh => false,
+    }
+}
