@@ -1,6 +1,7 @@
 -- Laws of texts: comparing, lower case, parts. Assumes nothing.
 use mathlib.Core.Path.{_≡_, refl, ap, _∙_, sym}
-use Prim.Native.Nat.{ℕ, _+_, _-_, _≤_, _<_}
+use Prim.Native.Nat.{ℕ, zero, suc, _+_, _-_, _≤_, _<_}
+use native.Mathlib.Nat.{le-of-suc-le-suc, not-suc-le-zero}
 use mathlib.Core.List.{List, [], _∷_, _++_}
 use mathlib.Core.Bool.{Bool, true, false, _&&_}
 use native.Mathlib.Omega.{arith}
@@ -11,7 +12,9 @@ use lib.Dec.{eqb}
 use borrow.Author.Tests.{eq-eqb, ne-eqb, eqb-true, le-leb, lt-leb}
 use borrow.Author.Needs.{needs}
 use Rattle.ascii.specs.Bytes.{pick}
-use Rattle.ascii.specs.Texts.{each, sameBy, sameBytes, partOf}
+use Rattle.ascii.specs.Texts.{every, each, sameBy, sameBytes, partOf}
+use Rattle.ascii.specs.Reading.{headOf, runOf, past}
+use Rattle.ascii.proofs.Bytes.{and-left, and-right}
 
 -- a comparison says that the texts are the same, and the other way round
 pub same-is : (f : ℕ → ℕ) (a b : List ℕ) → sameBy f a b ≡ true → each f a ≡ b
@@ -94,3 +97,23 @@ module _ (s : List ℕ) (a e : ℕ) where
   pub part-over : a ≤ e → length s < e → [] ≡ partOf s a e
   unfolding partOf pick
   part-over h g = rw (le-leb a e h, lt-leb e (length s) g)
+
+-- a test that each of a list passes holds at each place
+pub every-at : {A : Type 0} (p : A → Bool) (d : A) (xs : List A) (k : ℕ) → every p xs ≡ true → k < length xs → p (getD xs k d) ≡ true
+unfolding every
+every-at p d [] k e h = absurd (not-suc-le-zero h)
+every-at p d (x ∷ xs) zero e h = and-left (p x) (every p xs) e
+every-at p d (x ∷ xs) (suc k) e h = every-at p d xs k (and-right (p x) (every p xs) e) (le-of-suc-le-suc h)
+
+-- a run of bytes that all pass a test, with one after it that doesn't
+pub every-run : (p : ℕ → Bool) (xs ys : List ℕ) → every p xs ≡ true → p (headOf ys) ≡ false → runOf p (xs ++ ys) ≡ xs
+unfolding every runOf headOf pick
+every-run p [] [] e h = refl
+every-run p [] (y ∷ ys) e h = rw h
+every-run p (x ∷ xs) ys e h = rw (and-left (p x) (every p xs) e, every-run p xs ys (and-right (p x) (every p xs) e) h)
+
+pub every-past : (p : ℕ → Bool) (xs ys : List ℕ) → every p xs ≡ true → p (headOf ys) ≡ false → past p (xs ++ ys) ≡ ys
+unfolding every past headOf pick
+every-past p [] [] e h = refl
+every-past p [] (y ∷ ys) e h = rw h
+every-past p (x ∷ xs) ys e h = rw (and-left (p x) (every p xs) e) (every-past p xs ys (and-right (p x) (every p xs) e) h)

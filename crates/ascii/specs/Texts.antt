@@ -6,6 +6,11 @@ use lib.ListN.{length, take, drop}
 use lib.Dec.{leb, eqb}
 use Rattle.ascii.specs.Bytes.{pick, lower}
 
+-- whether every element of a list passes a test
+unfoldable pub every : {A : Type 0} → (A → Bool) → List A → Bool
+every p [] = true
+every p (x ∷ xs) = p x && every p xs
+
 -- every byte of a text, changed
 unfoldable pub each : (ℕ → ℕ) → List ℕ → List ℕ
 each f [] = []

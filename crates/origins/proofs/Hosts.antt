@@ -9,9 +9,9 @@ use lib.Seq.{drop-cons}
 use lib.Dec.{eqb}
 use borrow.Author.Tests.{eq-eqb, ne-eqb, not-true, not-false}
 use Rattle.ascii.specs.Bytes.{pick, isLabelByte}
-use Rattle.ascii.specs.Texts.{each}
+use Rattle.ascii.specs.Texts.{every, each}
 use Rattle.ascii.specs.Reading.{isEmpty}
-use Rattle.origins.specs.Hosts.{every, longer, labels, isLabel}
+use Rattle.origins.specs.Hosts.{longer, labels, isLabel}
 
 -- the labels of a text are good; `fresh`: the first has no byte yet
 unfoldable pub scan : Bool → List ℕ → Bool

@@ -12,10 +12,10 @@ use lib.Seq.{drop-cons}
 use lib.Dec.{leb, ltb, eqb}
 use borrow.Author.Tests.{lt-ltb, eqb-false, le-leb, lt-leb, leb-true, leb-false, not-true, not-false}
 use Rattle.limits.specs.Limits.{lastPort, portDigits}
+use Rattle.ascii.specs.Texts.{every}
 use Rattle.ascii.specs.Bytes.{pick, isDigit}
 use Rattle.ascii.specs.Reading.{isEmpty, headOf}
 use Rattle.ascii.proofs.Bytes.{and-left, and-right, within-low, within-high}
-use Rattle.origins.specs.Hosts.{every}
 use Rattle.origins.specs.Ports.{decimalFrom, decimal, isNumber, isPortPart, leadsZero}
 use Rattle.origins.specs.Steps.{portNumber, digitsAs}
 use Rattle.origins.specs.declared.Digits.{Digits}

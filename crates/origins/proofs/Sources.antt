@@ -8,7 +8,7 @@ use native.Mathlib.Omega.{arith}
 use lib.ListN.{length, take, drop, length-drop, length-take}
 use borrow.Author.Tests.{not-true, not-false}
 use Rattle.ascii.specs.Bytes.{pick, lower, within}
-use Rattle.ascii.specs.Texts.{each, lowered, sameBytes}
+use Rattle.ascii.specs.Texts.{every, each, lowered, sameBytes}
 use Rattle.ascii.specs.Reading.{runOf, past}
 use Rattle.ascii.specs.Places.{IsRun}
 use Rattle.ascii.specs.declared.Class.the-variants.{Not}
@@ -16,7 +16,7 @@ use Rattle.ascii.proofs.Reading.{run-part}
 use Rattle.ascii.proofs.Bytes.{and-left, within-low}
 use Rattle.ascii.specs.Literals
 use Rattle.limits.specs.Limits.{hostBytes}
-use Rattle.origins.specs.Hosts.{every, labels, isLabel, isHost}
+use Rattle.origins.specs.Hosts.{labels, isLabel, isHost}
 use Rattle.origins.specs.Ports.{originPort, portPartOf}
 use Rattle.origins.specs.Origins.{TupleOrigin, OriginSaid, schemeSlashes, startsWith, notColon, withPort, tupleOf}
 use Rattle.origins.specs.Expressions.{HostPart, SourceExpression, hostPartOf, withParts, hostSourceOf}

@@ -10,10 +10,10 @@ use lib.Seq.{take-all, drop-cons}
 use lib.Dec.{leb, ltb, eqb}
 use borrow.Author.Tests.{le-leb, lt-leb, leb-true, leb-false, lt-ltb, le-ltb, eq-eqb, ne-eqb}
 use Rattle.ascii.specs.Bytes.{pick, lower}
-use Rattle.ascii.specs.Texts.{each, lowered, sameBy, sameBytes, sameLowered}
+use Rattle.ascii.specs.Texts.{every, each, lowered, sameBy, sameBytes, sameLowered}
 use Rattle.ascii.specs.Reading.{headOf, isEmpty, next}
 use Rattle.limits.specs.Limits.{hostBytes}
-use Rattle.origins.specs.Hosts.{every, labels, isLabel, isHost}
+use Rattle.origins.specs.Hosts.{labels, isLabel, isHost}
 use Rattle.origins.specs.Ports.{leadsZero}
 use Rattle.origins.specs.Origins.{startsWith}
 use Rattle.origins.specs.Expressions.{startsLowered}

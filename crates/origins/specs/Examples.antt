@@ -8,9 +8,9 @@ use mathlib.Core.Option.{Option, some, none}
 use lib.ListN.{length, take, drop}
 use Rattle.ascii.specs.Bytes.{pick, lower}
 use Rattle.ascii.specs.Literals.{text}
-use Rattle.ascii.specs.Texts.{each, sameBy}
+use Rattle.ascii.specs.Texts.{every, each, sameBy}
 use Rattle.ascii.specs.Reading.{headOf, isEmpty, next, runOf, past}
-use Rattle.origins.specs.Hosts.{every, longer, labels, isLabel, isHost}
+use Rattle.origins.specs.Hosts.{longer, labels, isLabel, isHost}
 use Rattle.origins.specs.Ports.{decimalFrom, isNumber, leadsZero, isPort, originPort, isPortPart, portPartOf}
 use Rattle.origins.specs.Origins.{TupleOrigin, OriginSaid, startsWith, withPort, tupleOf, originOf}
 use Rattle.origins.specs.Origins.Origin.{tuple}

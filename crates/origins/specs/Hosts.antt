@@ -6,12 +6,8 @@ use lib.ListN.{length}
 use lib.Dec.{leb, eqb}
 use Rattle.limits.specs.Limits.{hostBytes}
 use Rattle.ascii.specs.Bytes.{pick, within, isLabelByte}
+use Rattle.ascii.specs.Texts.{every}
 use Rattle.ascii.specs.Reading.{isEmpty}
-
--- whether every element passes a test
-unfoldable pub every : {A : Type 0} → (A → Bool) → List A → Bool
-every p [] = true
-every p (x ∷ xs) = p x && every p xs
 
 -- the first label, one byte longer
 unfoldable pub longer : ℕ → List (List ℕ) → List (List ℕ)

@@ -8,9 +8,8 @@ use lib.Dec.{leb, ltb, eqb}
 use Rattle.limits.specs.Limits.{lastPort, portDigits}
 use Rattle.ascii.specs.Bytes.{pick, within, isDigit}
 use Rattle.ascii.specs.Literals.{text}
-use Rattle.ascii.specs.Texts.{sameBytes}
+use Rattle.ascii.specs.Texts.{every, sameBytes}
 use Rattle.ascii.specs.Reading.{headOf, isEmpty, next}
-use Rattle.origins.specs.Hosts.{every}
 use Rattle.origins.specs.declared.Scheme.{Scheme}
 use Rattle.origins.specs.declared.Scheme.the-variants.{Http, Https}
 use Rattle.origins.specs.declared.PortPart.{PortPart}

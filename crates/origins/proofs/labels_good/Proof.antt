@@ -3,8 +3,8 @@ use mathlib.Core.Path.{_≡_, sym}
 use Prim.Native.Nat.{_≤_, _-_}
 use lib.ListN.{length, drop}
 use borrow.Author.Needs.{needs}
-use Rattle.ascii.specs.Texts.{each}
-use Rattle.origins.specs.Hosts.{every, labels, isLabel}
+use Rattle.ascii.specs.Texts.{every, each}
+use Rattle.origins.specs.Hosts.{labels, isLabel}
 use Rattle.origins.specs.Steps.{fold}
 use Rattle.origins.proofs.Hosts.{scan, scan-labels, scan-end, scan-empty, scan-dot, scan-other, scan-byte}
 use Rattle.origins.proofs.labels_good.Statement.{statement}

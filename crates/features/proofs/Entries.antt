@@ -1,0 +1,78 @@
+-- What the code's table and its entries say of the features. Assumes nothing.
+use mathlib.Core.Path.{_≡_, refl, ap, _∙_, sym}
+use mathlib.Core.Bool.{Bool, true, false}
+use mathlib.Core.List.{List, [], map}
+use mathlib.Core.Option.{Option, some, none}
+use Prim.Native.Nat.{ℕ, _+_, _<_, _≤_}
+use native.Mathlib.Omega.{arith}
+use native.Mathlib.Numerals.{add-one}
+use lib.ListN.{length, getD, drop, drop-of-length-le}
+use lib.Seq.{drop-cons}
+use borrow.Author.Needs.{needs}
+use Rattle.ascii.specs.Bytes.{pick}
+use Rattle.ascii.specs.Texts.{sameBytes}
+use Rattle.features.specs.Features.{Row, features, featureCount, rowName, rowDefault, names, nameOf, defaultOf, featureOf, placeFrom}
+use Rattle.features.specs.Features.Default.{star, self}
+use Rattle.features.specs.Features.Row.{feature}
+use Rattle.features.specs.Answers.{entryAs, listAs, padded, IsEntry, IsName}
+use Rattle.features.specs.declared.DefaultAllowlist.{DefaultAllowlist}
+use Rattle.features.specs.declared.DefaultAllowlist.the-variants.{All, SelfOnly}
+use Rattle.features.specs.declared.Feature.{Feature}
+use Rattle.features.specs.declared.Name.{Name}
+use Rattle.features.proofs.Rules.{noRow, rows, map-at, map-some, padded-take, padded-length}
+use Rattle.features.proofs.Laws.{count, name-none, name-short}
+
+row-entry : (n : ℕ) (row : Row) → nameOf n ≡ rowName row → defaultOf n ≡ some (rowDefault row) → IsEntry n (entryAs row)
+unfolding entryAs
+row-entry n (feature name star) e f = record { name = ap padded (sym e); len = ap length (sym e); default = sym f }
+row-entry n (feature name self) e f = record { name = ap padded (sym e); len = ap length (sym e); default = sym f }
+
+-- an entry of a table that is document 01's list is the row of its number
+pub entry-at : (t : List Feature) (d : Feature) (n : ℕ) → t ≡ map entryAs features → n < featureCount → IsEntry n (getD t n d)
+unfolding names nameOf defaultOf
+entry-at t d n e h =
+    let g : n < length features = omega (arith, rows) in
+    rw (e, map-at entryAs noRow d features n g)
+    (row-entry n (getD features n noRow) (map-at rowName noRow [] features n g) (map-some rowDefault noRow features n g))
+
+-- an entry's default list, by its case
+pub default-star : (d : DefaultAllowlist) (n : ℕ) → d ≡ All → some (listAs d) ≡ defaultOf n → some star ≡ defaultOf n
+default-star d n t e = rw t at e
+
+pub default-self : (d : DefaultAllowlist) (n : ℕ) → d ≡ SelfOnly → some (listAs d) ≡ defaultOf n → some self ≡ defaultOf n
+default-self d n t e = rw t at e
+
+-- the bytes and the length of a name pin all that is asked of it
+pub name-is : (n : ℕ) (r : Name) → r .bytes ≡ padded (nameOf n) → r .len ≡ length (nameOf n) → IsName n r
+name-is n r e f =
+    record {
+      bytes = e;
+      len = f;
+      text = rw (e, f) (padded-take (nameOf n));
+      within = rw f (name-short n);
+      room = rw e (padded-length (nameOf n) (name-short n));
+    }
+
+-- the empty name, for a number over 16
+pub no-name : (n : ℕ) (r : Name) → featureCount ≤ n → r .bytes ≡ padded [] → r .len ≡ 0 → IsName n r
+no-name n r h e f = name-is n r (rw (name-none n h) e) (rw (name-none n h) f)
+
+-- the search, from its start and by one turn
+pub find-start : (word : List ℕ) → placeFrom 0 word (drop 0 names) ≡ featureOf word
+unfolding featureOf
+find-start word = refl
+
+module _ (word : List ℕ) (n : ℕ) (r : Option ℕ) where
+  pub find-here : (t : Bool) → t ≡ sameBytes word (nameOf n) → t ≡ true → n < featureCount → placeFrom n word (drop n names) ≡ r → some n ≡ r
+  unfolding nameOf placeFrom pick
+  find-here t a b h e = rw (drop-cons names n [] (omega (arith, count)), sym a ∙ b) at e
+
+  pub find-more : (t : Bool) → t ≡ sameBytes word (nameOf n) → t ≡ false → n < featureCount → placeFrom n word (drop n names) ≡ r → placeFrom (n + 1) word (drop (n + 1) names) ≡ r
+  unfolding nameOf placeFrom pick
+  find-more t a b h e = simp add-one (rw (drop-cons names n [] (omega (arith, count)), sym a ∙ b) at e)
+
+  pub find-end : featureCount ≤ n → placeFrom n word (drop n names) ≡ r → none ≡ r
+  unfolding placeFrom
+  find-end h e = rw (drop-of-length-le names {i = n} (omega (arith, count))) at e
+
+pub ruleset finds = (find-start, find-here, find-more, find-end, needs)

@@ -1,0 +1,74 @@
+-- What the code's answers say, in document 01's terms.
+use Prim.Native.Nat.{ℕ, _-_, _<_, _≤_}
+use mathlib.Core.Path.{_≡_}
+use mathlib.Core.List.{List, _++_}
+use mathlib.Core.Option.{Option, some, none}
+use lib.ListN.{length, take, replicate}
+use Rattle.features.specs.Features.{Default, Row, featureCount, nameOf, defaultOf, featureOf}
+use Rattle.features.specs.Features.Default.{star, self}
+use Rattle.features.specs.Features.Row.{feature}
+use Rattle.features.specs.declared.DefaultAllowlist.{DefaultAllowlist}
+use Rattle.features.specs.declared.DefaultAllowlist.the-variants as list
+use Rattle.features.specs.declared.DefaultOf.{DefaultOf}
+use Rattle.features.specs.declared.DefaultOf.the-variants as answer
+use Rattle.features.specs.declared.Lookup.{Lookup}
+use Rattle.features.specs.declared.Lookup.the-variants.{Known, Unknown}
+use Rattle.features.specs.declared.Feature.{Feature}
+use Rattle.features.specs.declared.Name.{Name}
+
+-- the longest name has 33 bytes
+abbrev pub nameBytes : ℕ
+nameBytes = 33
+
+-- a name with spaces after it, up to 33 bytes
+unfoldable pub padded : List ℕ → List ℕ
+padded name = name ++ replicate (nameBytes - length name) 32
+
+-- a default allowlist of the code's table: `*` or `self`
+abbrev pub listAs : DefaultAllowlist → Default
+listAs list.All = star
+listAs list.SelfOnly = self
+
+-- and the other way round
+abbrev pub listFor : Default → DefaultAllowlist
+listFor star = list.All
+listFor self = list.SelfOnly
+
+-- the code's entry for a row of document 01's list
+unfoldable pub entryAs : Row → Feature
+entryAs (feature name d) = record { name = padded name; len = length name; default = listFor d }
+
+-- the default list that is answered; none for a "number over 16"
+abbrev pub defaultAs : DefaultOf → Option Default
+defaultAs answer.All = some star
+defaultAs answer.SelfOnly = some self
+defaultAs answer.NoSuchFeature = none
+
+-- the feature's number, if the word is a feature's name
+abbrev pub lookupAs : Lookup → Option ℕ
+lookupAs (Known n) = some n
+lookupAs Unknown = none
+
+-- the number that is answered, as a bound
+abbrev pub numberIn : Lookup → ℕ
+numberIn (Known n) = n
+numberIn Unknown = 0
+
+-- the answer is the definition's, and its number is a feature's
+pub record IsLookup (word : List ℕ) (r : Lookup) : Type 0 where
+  pub is : lookupAs r ≡ featureOf word
+  pub below : numberIn r < featureCount
+
+-- the name of a number: every byte of the array, and the first `len`, which are the name
+pub record IsName (n : ℕ) (r : Name) : Type 0 where
+  pub bytes : r .bytes ≡ padded (nameOf n)
+  pub len : r .len ≡ length (nameOf n)
+  pub text : take (r .len) (r .bytes) ≡ nameOf n
+  pub within : r .len ≤ nameBytes
+  pub room : length (r .bytes) ≡ nameBytes
+
+-- an entry of the code's table is the row of its number
+pub record IsEntry (n : ℕ) (r : Feature) : Type 0 where
+  pub name : r .name ≡ padded (nameOf n)
+  pub len : r .len ≡ length (nameOf n)
+  pub default : some (listAs (r .default)) ≡ defaultOf n

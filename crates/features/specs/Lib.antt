@@ -1,0 +1,3 @@
+pub mod Features
+pub mod Answers
+pub mod Examples
