@@ -117,3 +117,14 @@ unfolding every past headOf pick
 every-past p [] [] e h = refl
 every-past p [] (y ∷ ys) e h = rw h
 every-past p (x ∷ xs) ys e h = rw (and-left (p x) (every p xs) e) (every-past p xs ys (and-right (p x) (every p xs) e) h)
+
+-- a text whose bytes all pass a test is one run
+pub every-run-whole : (p : ℕ → Bool) (xs : List ℕ) → every p xs ≡ true → runOf p xs ≡ xs
+unfolding every runOf pick
+every-run-whole p [] e = refl
+every-run-whole p (x ∷ xs) e = rw (and-left (p x) (every p xs) e, every-run-whole p xs (and-right (p x) (every p xs) e))
+
+pub every-past-whole : (p : ℕ → Bool) (xs : List ℕ) → every p xs ≡ true → past p xs ≡ []
+unfolding every past pick
+every-past-whole p [] e = refl
+every-past-whole p (x ∷ xs) e = rw (and-left (p x) (every p xs) e) (every-past-whole p xs (and-right (p x) (every p xs) e))

@@ -6,3 +6,8 @@ pub mod HostParts
 pub mod Sources
 pub mod Readers
 pub mod Matches
+pub mod Decimals
+pub mod HostBytes
+pub mod Back
+pub mod Said
+pub mod Laws

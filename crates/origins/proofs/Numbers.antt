@@ -15,7 +15,7 @@ use Rattle.limits.specs.Limits.{lastPort, portDigits}
 use Rattle.ascii.specs.Texts.{every}
 use Rattle.ascii.specs.Bytes.{pick, isDigit}
 use Rattle.ascii.specs.Reading.{isEmpty, headOf}
-use Rattle.ascii.proofs.Bytes.{and-left, and-right, within-low, within-high}
+use Rattle.ascii.proofs.Bytes.{and-false, and-left, and-right, within-low, within-high}
 use Rattle.origins.specs.Ports.{decimalFrom, decimal, isNumber, isPortPart, leadsZero}
 use Rattle.origins.specs.Steps.{portNumber, digitsAs}
 use Rattle.origins.specs.declared.Digits.{Digits}
@@ -30,10 +30,6 @@ decimal-grows n (d ∷ ds) = omega (arith, decimal-grows (n * 10 + (d - 48)) ds)
 unfoldable pub readFrom : ℕ → List ℕ → Option ℕ
 readFrom n [] = some n
 readFrom n (d ∷ ds) = pick (isDigit d) (pick (leb (n * 10 + (d - 48)) lastPort) (readFrom (n * 10 + (d - 48)) ds) none) none
-
-and-false : (a : Bool) → a && false ≡ false
-and-false true = refl
-and-false false = refl
 
 pub read-is : (n : ℕ) (ds : List ℕ) → n ≤ lastPort → readFrom n ds ≡ pick (every isDigit ds && leb (decimalFrom n ds) lastPort) (some (decimalFrom n ds)) none
 unfolding readFrom decimalFrom every pick
@@ -96,7 +92,7 @@ module _ (ds : List ℕ) where
 six-digits : (a b c d e f : ℕ) → 1 ≤ a → lastPort < (((((0 * 10 + a) * 10 + b) * 10 + c) * 10 + d) * 10 + e) * 10 + f
 six-digits a b c d e f h = omega arith
 
-long-decimal : (ds : List ℕ) → portDigits < length ds → leadsZero ds ≡ false → every isDigit ds ≡ true → lastPort < decimal ds
+pub long-decimal : (ds : List ℕ) → portDigits < length ds → leadsZero ds ≡ false → every isDigit ds ≡ true → lastPort < decimal ds
 unfolding leadsZero every decimalFrom headOf
 long-decimal [] h z e = absurd (omega arith)
 long-decimal (a ∷ []) h z e = absurd (omega arith)

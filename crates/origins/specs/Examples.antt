@@ -1,14 +1,13 @@
--- Document 01, "Cases at the edges": its rows about expressions, and the readings that they rest on, by computation.
+-- Document 01, "Cases at the edges": its marked rows about expressions, and the settled readings of origin texts and expressions, by computation.
 use Prim.Native.Nat.{ℕ}
 use Prim.Native.String.{String}
 use mathlib.Core.Path.{_≡_, refl}
-use mathlib.Core.List.{List}
+use mathlib.Core.List.{List, [], _∷_}
 use mathlib.Core.Bool.{Bool, true, false, not, _&&_}
 use mathlib.Core.Option.{Option, some, none}
-use lib.ListN.{length, take, drop}
 use Rattle.ascii.specs.Bytes.{pick, lower}
 use Rattle.ascii.specs.Literals.{text}
-use Rattle.ascii.specs.Texts.{every, each, sameBy}
+use Rattle.ascii.specs.Texts.{every, each, sameBy, sameBytes}
 use Rattle.ascii.specs.Reading.{headOf, isEmpty, next, runOf, past}
 use Rattle.origins.specs.Hosts.{longer, labels, isLabel, isHost}
 use Rattle.origins.specs.Ports.{decimalFrom, isNumber, leadsZero, isPort, originPort, isPortPart, portPartOf}
@@ -18,9 +17,13 @@ use Rattle.origins.specs.Origins.OriginSaid.{saysEmpty, saysNull, saysTu
 use Rattle.origins.specs.Expressions.{SourceExpression, hostPartOf, withParts, hostSourceOf, startsLowered, expressionOf}
 use Rattle.origins.specs.Matching.{endsIn, portAdmits, hostAdmits, admitsTuple, admits}
 use Rattle.origins.specs.NormalForms.{lastDigits, portPartText, expressionPartsText, normalPort, normal, normalForm}
-use Rattle.origins.specs.declared.Scheme.the-variants.{Http, Https}
 
--- whether the expression of a text admits the origin of another; none where one of them is none
+-- an expression, an origin text, and whether the one admits the other
+pub data Case : Type 0 where
+  admitted : String → String → Case
+  refused : String → String → Case
+
+-- whether an expression and an origin, as read, admit; none where the one is none or the other no tuple
 abbrev verdict : Option SourceExpression → OriginSaid → Option Bool
 verdict (some e) (saysTuple o) = some (admits e (tuple o))
 verdict (some e) saysEmpty = none
@@ -28,15 +31,116 @@ verdict (some e) saysNull = none
 verdict (some e) noOrigin = none
 verdict none o = none
 
-abbrev admitsText : String → String → Option Bool
-admitsText e o = verdict (expressionOf (text e)) (originOf (text o))
+abbrev isYes : Option Bool → Bool
+isYes (some b) = b
+isYes none = false
 
--- Every definition that the cases compute with.
-cases : Type 0
-cases =
-    (admitsText "https://*.example.com" "https://geo.example.com" ≡ some true)
-    × (admitsText "https://*.example.com" "https://example.com" ≡ some false)
+abbrev isNo : Option Bool → Bool
+isNo (some b) = not b
+isNo none = false
 
-subdomain : admitsText "https://*.example.com" "https://geo.example.com" ≡ some true
-unfolding expressionOf originOf tupleOf withPort originPort isPort isNumber decimalFrom leadsZero isPortPart portPartOf hostSourceOf withParts hostPartOf startsLowered startsWith isHost isLabel labels longer every each sameBy lower pick runOf past next isEmpty headOf admits admitsTuple hostAdmits portAdmits endsIn
-subdomain = refl
+abbrev right : Case → Bool
+right (admitted e o) = isYes (verdict (expressionOf (text e)) (originOf (text o)))
+right (refused e o) = isNo (verdict (expressionOf (text e)) (originOf (text o)))
+
+-- the rows marked # about expressions
+marked : List Case
+marked =
+    admitted "https://*.example.com" "https://geo.example.com"
+    ∷ refused "https://*.example.com" "https://example.com"
+    ∷ admitted "https://example.com:*" "https://example.com:444"
+    ∷ refused "https://example.com" "https://example.com:444"
+    ∷ admitted "HTTPS://Example.COM:0443" "https://example.com"
+    ∷ refused "http://example.com" "https://example.com"
+    ∷ []
+
+marked-right : every right marked ≡ true
+unfolding marked every each sameBy lower pick headOf isEmpty next runOf past longer labels isLabel isHost decimalFrom isNumber leadsZero isPort originPort isPortPart portPartOf startsWith withPort tupleOf originOf hostPartOf withParts hostSourceOf startsLowered expressionOf endsIn portAdmits hostAdmits admitsTuple admits
+marked-right = refl
+
+-- texts, and whether they say a tuple origin
+abbrev isTuple : OriginSaid → Bool
+isTuple saysEmpty = false
+isTuple saysNull = false
+isTuple (saysTuple o) = true
+isTuple noOrigin = false
+
+abbrev isNone : OriginSaid → Bool
+isNone saysEmpty = false
+isNone saysNull = false
+isNone (saysTuple o) = false
+isNone noOrigin = true
+
+goodOrigins : List String
+goodOrigins = "http://a:443" ∷ "https://a:80" ∷ "https://a:0" ∷ "http://-" ∷ "https://a.b-c.d:65535" ∷ []
+
+badOrigins : List String
+badOrigins =
+    "http://a:80"
+    ∷ "https://a:443"
+    ∷ "https://a:00"
+    ∷ "https://a:0443"
+    ∷ "https://a:"
+    ∷ "https://a:65536"
+    ∷ "https://a:4294967296"
+    ∷ "Https://a"
+    ∷ "NULL"
+    ∷ "https://a."
+    ∷ "https://.a"
+    ∷ "https://a..b"
+    ∷ "https://a_b"
+    ∷ "https://A"
+    ∷ "https://"
+    ∷ "https://a/"
+    ∷ "ftp://a"
+    ∷ []
+
+origins-good : every (λ s. isTuple (originOf (text s))) goodOrigins ≡ true
+unfolding goodOrigins every sameBy pick headOf isEmpty next runOf past longer labels isLabel isHost decimalFrom isNumber leadsZero isPort originPort startsWith withPort tupleOf originOf
+origins-good = refl
+
+origins-bad : every (λ s. isNone (originOf (text s))) badOrigins ≡ true
+unfolding badOrigins every sameBy pick headOf isEmpty next runOf past longer labels isLabel isHost decimalFrom isNumber leadsZero isPort originPort startsWith withPort tupleOf originOf
+origins-bad = refl
+
+-- an expression and its normal form, or no expression
+pub data Form : Type 0 where
+  form : String → String → Form
+  nothing : String → Form
+
+abbrev sameForm : List ℕ → Option SourceExpression → Bool
+sameForm t (some e) = sameBytes (normalForm e) t
+sameForm t none = false
+
+abbrev noForm : Option SourceExpression → Bool
+noForm (some e) = false
+noForm none = true
+
+abbrev formed : Form → Bool
+formed (form s t) = sameForm (text t) (expressionOf (text s))
+formed (nothing s) = noForm (expressionOf (text s))
+
+forms : List Form
+forms =
+    form "HTTPS://B.example:443" "https://b.example"
+    ∷ form "http://x:0443" "http://x:443"
+    ∷ form "https://*.A:*" "https://*.a:*"
+    ∷ form "HTTP:" "http:"
+    ∷ form "https://*:00443" "https://*"
+    ∷ form "https://a:00000" "https://a:0"
+    ∷ nothing "https://a.example:65536"
+    ∷ nothing "https://a:000443"
+    ∷ nothing "https://a:"
+    ∷ nothing "https://a/"
+    ∷ nothing "https://user@a"
+    ∷ nothing "https://*.*.a"
+    ∷ nothing "https://[::1]"
+    ∷ nothing "a.example"
+    ∷ nothing "ws://a"
+    ∷ nothing "*"
+    ∷ nothing ""
+    ∷ []
+
+forms-right : every formed forms ≡ true
+unfolding forms every each sameBy lower pick headOf isEmpty next runOf past longer labels isLabel isHost decimalFrom isNumber isPortPart portPartOf startsWith hostPartOf withParts hostSourceOf startsLowered expressionOf lastDigits portPartText expressionPartsText normalPort normal
+forms-right = refl

@@ -1,10 +1,12 @@
 -- 01, "Tidied headers": an expression's normal form, "lower case, no leading zeros, default port dropped"; and an origin's text.
-use Prim.Native.Nat.{ℕ, zero, suc, _+_, _/_, _%_}
+use Prim.Native.Nat.{ℕ, zero, suc, _+_, _/_, _%_, _≤_}
+use mathlib.Core.Path.{_≡_}
 use mathlib.Core.List.{List, [], _∷_, _++_}
 use mathlib.Core.Bool.{Bool, true, false}
 use lib.Dec.{ltb, eqb}
-use Rattle.limits.specs.Limits.{portDigits}
+use Rattle.limits.specs.Limits.{lastPort, hostBytes, portDigits}
 use Rattle.ascii.specs.Bytes.{pick}
+use Rattle.origins.specs.Hosts.{isHost}
 use Rattle.origins.specs.Ports.{defaultPort}
 use Rattle.origins.specs.Origins.{TupleOrigin, schemeText, schemeSlashes}
 use Rattle.origins.specs.Expressions.{HostPart, SourceExpression}
@@ -53,3 +55,30 @@ normalForm e = expressionText (normal e)
 unfoldable pub originText : TupleOrigin → List ℕ
 originText o =
     schemeSlashes (o .scheme) ++ (o .host ++ pick (eqb (o .port) (defaultPort (o .scheme))) [] (58 ∷ portText (o .port)))
+
+-- the longest origin text: `https://`, a host, `:` and a port
+abbrev pub originBytes : ℕ
+originBytes = 8 + hostBytes + 1 + portDigits
+
+-- port-parts that a text can say
+abbrev pub GoodPort : PortPart → Type 0
+GoodPort Default = Unit {0}
+GoodPort Any = Unit {0}
+GoodPort (Number n) = n ≤ lastPort
+
+-- host parts that a text can say
+abbrev pub GoodHost : HostPart → PortPart → Type 0
+GoodHost noHost p = p ≡ Default
+GoodHost anyHost p = Unit {0}
+GoodHost (exactHost h) p = isHost h ≡ true
+GoodHost (subdomainsOf h) p = isHost h ≡ true
+
+-- an expression that a text can say
+pub record GoodExpression (e : SourceExpression) : Type 0 where
+  pub host : GoodHost (e .host) (e .port)
+  pub port : GoodPort (e .port)
+
+-- an origin that a text can say
+pub record GoodOrigin (o : TupleOrigin) : Type 0 where
+  pub host : isHost (o .host) ≡ true
+  pub port : o .port ≤ lastPort

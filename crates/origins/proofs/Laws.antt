@@ -1,0 +1,365 @@
+-- The laws of origins and expressions, for the crates above: nothing there opens a definition of this crate. Assumes nothing.
+use mathlib.Core.Path.{_≡_, refl, ap, _∙_, sym, subst}
+use Prim.Native.Nat.{ℕ, _+_, _-_, _≤_, _<_}
+use mathlib.Core.List.{List, [], _∷_, _++_, append-assoc}
+use mathlib.Core.Bool.{Bool, true, false, not, _&&_}
+use mathlib.Core.Option.{Option, some, none}
+use native.Mathlib.Omega.{arith}
+use lib.ListN.{length, take, drop, length-append, length-drop, length-take, take-append-drop}
+use lib.Seq.{take-at, drop-at, drop-drop, drop-append-le}
+use lib.Dec.{leb, ltb, eqb}
+use borrow.Author.Tests.{eqb-true, eqb-false, eq-eqb, ltb-true, lt-ltb, not-true}
+use Rattle.limits.specs.Limits.{lastPort, hostBytes, portDigits}
+use Rattle.ascii.specs.Bytes.{pick, lower}
+use Rattle.ascii.specs.Literals.{text}
+use Rattle.ascii.specs.Texts.{each, lowered, sameBy, sameBytes, partOf}
+use Rattle.ascii.specs.Reading.{isEmpty, next, runOf, past}
+use Rattle.ascii.proofs.Bytes.{and-left, and-right}
+use Rattle.ascii.proofs.Texts.{bytes-same, same-bytes, part-in}
+use Rattle.ascii.proofs.Reading.{run-cut}
+use Rattle.origins.specs.Hosts.{isHost}
+use Rattle.origins.specs.Ports.{defaultPort, decimal, isNumber, leadsZero, isPort, originPort, isPortPart, portPartOf}
+use Rattle.origins.specs.Origins.{TupleOrigin, Origin, OriginSaid, schemeSlashes, nullText, notColon, originOf}
+use Rattle.origins.specs.Origins.Origin.{tuple, opaque, fresh}
+use Rattle.origins.specs.Origins.OriginSaid.{saysEmpty, saysNull, saysTuple, noOrigin}
+use Rattle.origins.specs.Expressions.{HostPart, SourceExpression, hostPartOf, schemeSource, expressionOf}
+use Rattle.origins.specs.Expressions.HostPart.{noHost, anyHost, exactHost, subdomainsOf}
+use Rattle.origins.specs.Matching.{sameScheme, endsIn, portAdmits, hostAdmits, admitsTuple, admits, sameTuple, sameOrigin}
+use Rattle.origins.specs.NormalForms.{GoodPort, GoodHost, GoodExpression, GoodOrigin, portText, originText, originBytes, normalPort, normal, normalForm, expressionText}
+use Rattle.origins.specs.Answers.{tupleRange, tupleIn, hostKind, hostFrom, hostTo, hostIn, expressionRange, expressionIn}
+use Rattle.origins.specs.declared.Scheme.{Scheme}
+use Rattle.origins.specs.declared.Scheme.the-variants.{Http, Https}
+use Rattle.origins.specs.declared.PortPart.{PortPart}
+use Rattle.origins.specs.declared.PortPart.the-variants.{Default, Any, Number}
+use Rattle.origins.proofs.Steps.{each-length}
+use Rattle.origins.proofs.HostParts.{each-drop}
+use Rattle.origins.proofs.HostBytes.{host-some, host-most}
+use Rattle.origins.proofs.Numbers.{number-most}
+use Rattle.origins.proofs.Decimals.{port-canonical, port-short}
+use Rattle.origins.proofs.Back.{Follows, text-back, origin-back}
+use Rattle.origins.proofs.Back.Follows.{nothing, colon}
+use Rattle.origins.proofs.Said.{OriginParts, origin-parts, said-empty, said-null, host-cases, SourceParts, source-cases}
+
+-- what follows a host, by the port that it says
+record PortSaid (k : Scheme) (m : List ℕ) (n : ℕ) : Type 0 where
+  is : m ≡ pick (eqb n (defaultPort k)) [] (58 ∷ portText n)
+  most : n ≤ lastPort
+  short : length m ≤ 1 + portDigits
+
+default-most : (k : Scheme) → defaultPort k ≤ lastPort
+default-most Http = omega arith
+default-most Https = omega arith
+
+port-is : (k : Scheme) (ds : List ℕ) (n : ℕ) (b : Bool) → isPort k ds ≡ b → pick b (some (decimal ds)) none ≡ some n → PortSaid k (58 ∷ ds) n
+unfolding isPort pick
+port-is k ds n true u f =
+    let d : decimal ds ≡ n = cc in
+    let x = and-left (isNumber ds && not (leadsZero ds)) (not (eqb (decimal ds) (defaultPort k))) u in
+    let a : isNumber ds ≡ true = and-left (isNumber ds) (not (leadsZero ds)) x in
+    let z : leadsZero ds ≡ false = not-true (leadsZero ds) (and-right (isNumber ds) (not (leadsZero ds)) x) in
+    let q : eqb n (defaultPort k) ≡ false = rw d at (not-true (eqb (decimal ds) (defaultPort k)) (and-right (isNumber ds && not (leadsZero ds)) (not (eqb (decimal ds) (defaultPort k))) u)) in
+    let c : portText n ≡ ds = rw d at (port-canonical ds a z) in
+    record { is = rw (q, c); most = rw d at (number-most ds a); short = omega (arith, port-short ds a z) }
+port-is k ds n false u f = absurd (let z : _≡_ {A = ℕ} 0 1 = cc in omega arith)
+
+port-said : (k : Scheme) {m : List ℕ} (n : ℕ) → Follows m → originPort k m ≡ some n → PortSaid k m n
+unfolding originPort isEmpty next pick
+port-said k n nothing f =
+    let d : defaultPort k ≡ n = cc in
+    record { is = rw (eq-eqb n (defaultPort k) (sym d)); most = rw d at (default-most k); short = omega arith }
+port-said k n (colon {m = ds}) f = port-is k ds n (isPort k ds) refl f
+
+slashes-most : (k : Scheme) → length (schemeSlashes k) ≤ 8
+slashes-most Http = omega arith
+slashes-most Https = omega arith
+
+part-middle : (a b c : List ℕ) → partOf (a ++ (b ++ c)) (length a) (length a + length b) ≡ b
+part-middle a b c =
+    let s = a ++ (b ++ c) in
+    let n : length s ≡ length a + length (b ++ c) = length-append a (b ++ c) in
+    let m : length (b ++ c) ≡ length b + length c = length-append b c in
+    let p : take (length a + length b - length a) (drop (length a) s) ≡ partOf s (length a) (length a + length b) = part-in s (length a) (length a + length b) (omega arith) (omega arith) in
+    sym p ∙ ap (take (length a + length b - length a)) (drop-at a (b ++ c) (length a) refl) ∙ take-at b c (length a + length b - length a) (omega arith)
+
+module _ (s : List ℕ) (o : TupleOrigin) (e : originOf s ≡ saysTuple o) where
+  parts : OriginParts s o
+  parts = origin-parts s o e
+
+  said : PortSaid (o .scheme) (parts .rest) (o .port)
+  said = port-said (o .scheme) (o .port) (parts .follows) (parts .port)
+
+  -- a tuple origin's text is canonical: it is the text that the origin is written as
+  pub tuple-text : s ≡ originText o
+  unfolding originText
+  tuple-text = parts .is ∙ ap (λ (m : List ℕ). schemeSlashes (o .scheme) ++ (o .host ++ m)) (said .is)
+
+  -- an origin that a text says has a host and a port by document 01
+  pub tuple-good : GoodOrigin o
+  tuple-good = record { host = parts .host; port = said .most }
+
+  -- and its text is at most 267 bytes long
+  pub tuple-length : length s ≤ originBytes
+  tuple-length =
+      omega (arith, ap length (parts .is), length-append (schemeSlashes (o .scheme)) (o .host ++ parts .rest), length-append (o .host) (parts .rest), slashes-most (o .scheme), host-most (o .host) (parts .host), said .short)
+
+  -- the range that the code answers stands for the origin
+  pub tuple-range : tupleIn s (tupleRange o) ≡ o
+  tuple-range = ap {B = TupleOrigin} (λ (h : List ℕ). record { scheme = o .scheme; host = h; port = o .port }) (rw (parts .is) (part-middle (schemeSlashes (o .scheme)) (o .host) (parts .rest)))
+
+-- two texts that say the same origin are the same bytes
+pub text-one : (s t : List ℕ) (o : TupleOrigin) → originOf s ≡ saysTuple o → originOf t ≡ saysTuple o → s ≡ t
+text-one s t o e f = tuple-text s o e ∙ sym (tuple-text t o f)
+
+-- an origin with a host and a port by document 01 is said by its text
+pub good-tuple : (o : TupleOrigin) → GoodOrigin o → originOf (originText o) ≡ saysTuple o
+good-tuple o g = origin-back o g
+
+-- the empty text says "empty", and no other does
+pub text-empty : originOf [] ≡ saysEmpty
+unfolding originOf isEmpty pick
+text-empty = refl
+
+pub empty-text : (s : List ℕ) → originOf s ≡ saysEmpty → s ≡ []
+empty-text s e = said-empty s e
+
+-- `null` says "null", and no other text does
+pub text-null : originOf nullText ≡ saysNull
+unfolding originOf isEmpty sameBy pick
+text-null = refl
+
+pub null-text : (s : List ℕ) → originOf s ≡ saysNull → s ≡ nullText
+null-text s e = said-null s e
+
+-- comparing tuples: alike exactly if they are the same
+scheme-is : (k j : Scheme) → sameScheme k j ≡ true → k ≡ j
+scheme-is Http Http e = refl
+scheme-is Http Https e = absurd (let z : _≡_ {A = ℕ} 0 1 = cc in omega arith)
+scheme-is Https Http e = absurd (let z : _≡_ {A = ℕ} 0 1 = cc in omega arith)
+scheme-is Https Https e = refl
+
+scheme-self : (k : Scheme) → sameScheme k k ≡ true
+scheme-self Http = refl
+scheme-self Https = refl
+
+tuples-is : (a b : TupleOrigin) → sameTuple a b ≡ true → a ≡ b
+unfolding sameTuple
+tuples-is a b e =
+    let x = and-left (sameScheme (a .scheme) (b .scheme) && sameBytes (a .host) (b .host)) (eqb (a .port) (b .port)) e in
+    let k : a .scheme ≡ b .scheme = scheme-is (a .scheme) (b .scheme) (and-left (sameScheme (a .scheme) (b .scheme)) (sameBytes (a .host) (b .host)) x) in
+    let h : a .host ≡ b .host = bytes-same (a .host) (b .host) (and-right (sameScheme (a .scheme) (b .scheme)) (sameBytes (a .host) (b .host)) x) in
+    let p : a .port ≡ b .port = eqb-true (a .port) (b .port) (and-right (sameScheme (a .scheme) (b .scheme) && sameBytes (a .host) (b .host)) (eqb (a .port) (b .port)) e) in
+    λ i. record { scheme = k i; host = h i; port = p i }
+
+tuples-self : (a : TupleOrigin) → sameTuple a a ≡ true
+unfolding sameTuple
+tuples-self a = rw (scheme-self (a .scheme), same-bytes (a .host), eq-eqb (a .port) (a .port) refl)
+
+-- two tuple origins are the same exactly if their texts are the same bytes
+pub same-texts : (s t : List ℕ) (a b : TupleOrigin) → originOf s ≡ saysTuple a → originOf t ≡ saysTuple b → sameOrigin (tuple a) (tuple b) ≡ sameBytes s t
+unfolding sameOrigin
+same-texts s t a b e f = go (sameTuple a b) (sameBytes s t) refl refl
+  where
+    go : (u v : Bool) → sameTuple a b ≡ u → sameBytes s t ≡ v → u ≡ v
+    go true true x y = refl
+    go false false x y = refl
+    go true false x y =
+        let q : a ≡ b = tuples-is a b x in
+        let r : s ≡ t = text-one s t b (rw q at e) f in
+        absurd (let z : _≡_ {A = ℕ} 0 1 = cc (same-bytes t) in omega arith)
+    go false true x y =
+        let r : s ≡ t = bytes-same s t y in
+        let q : a ≡ b = cc in
+        absurd (let z : _≡_ {A = ℕ} 0 1 = cc (tuples-self b) in omega arith)
+
+-- an origin that a document can have is the same as itself; a fresh one is the same as nothing
+pub tuple-self : (a : TupleOrigin) → sameOrigin (tuple a) (tuple a) ≡ true
+unfolding sameOrigin
+tuple-self a = tuples-self a
+
+pub opaque-self : (n : ℕ) → sameOrigin (opaque n) (opaque n) ≡ true
+unfolding sameOrigin
+opaque-self n = eq-eqb n n refl
+
+pub fresh-left : (o : Origin) → sameOrigin fresh o ≡ false
+unfolding sameOrigin
+fresh-left o = refl
+
+pub fresh-right : (o : Origin) → sameOrigin o fresh ≡ false
+unfolding sameOrigin
+fresh-right (tuple a) = refl
+fresh-right (opaque n) = refl
+fresh-right fresh = refl
+
+-- origins that are the same are one
+pub same-one : (a b : Origin) → sameOrigin a b ≡ true → a ≡ b
+unfolding sameOrigin
+same-one (tuple a) (tuple b) e = ap tuple (tuples-is a b e)
+same-one (tuple a) (opaque n) e = absurd (let z : _≡_ {A = ℕ} 0 1 = cc in omega arith)
+same-one (tuple a) fresh e = absurd (let z : _≡_ {A = ℕ} 0 1 = cc in omega arith)
+same-one (opaque m) (tuple b) e = absurd (let z : _≡_ {A = ℕ} 0 1 = cc in omega arith)
+same-one (opaque m) (opaque n) e = ap opaque (eqb-true m n e)
+same-one (opaque m) fresh e = absurd (let z : _≡_ {A = ℕ} 0 1 = cc in omega arith)
+same-one fresh b e = absurd (let z : _≡_ {A = ℕ} 0 1 = cc in omega arith)
+
+-- "No expression admits an opaque origin."
+pub admits-opaque : (e : SourceExpression) (n : ℕ) → admits e (opaque n) ≡ false
+unfolding admits
+admits-opaque e n = refl
+
+pub admits-fresh : (e : SourceExpression) → admits e fresh ≡ false
+unfolding admits
+admits-fresh e = refl
+
+-- what `*.` and a host admits ends in the dot and the host, with at least one byte before
+pub ends-before : (t h : List ℕ) → endsIn t h ≡ true → (b : List ℕ) × (h ≡ b ++ t) × (1 ≤ length b)
+unfolding endsIn
+ends-before t h e =
+    let n : length t < length h = ltb-true (length t) (length h) (and-left (ltb (length t) (length h)) (sameBytes t (drop (length h - length t) h)) e) in
+    let d : t ≡ drop (length h - length t) h = bytes-same t (drop (length h - length t) h) (and-right (ltb (length t) (length h)) (sameBytes t (drop (length h - length t) h)) e) in
+    let k = length h - length t in
+    (take k h, sym (take-append-drop k h) ∙ ap (λ (l : List ℕ). take k h ++ l) (sym d), omega (arith, length-take k h))
+
+pub before-ends : (b t : List ℕ) → 1 ≤ length b → endsIn t (b ++ t) ≡ true
+unfolding endsIn
+before-ends b t h =
+    let n : length (b ++ t) ≡ length b + length t = length-append b t in
+    rw (lt-ltb (length t) (length (b ++ t)) (omega arith), drop-at b t (length (b ++ t) - length t) (omega arith)) (same-bytes t)
+
+-- a part of a text that stands `i` bytes into what is known to stand at `n`
+part-run : (s : List ℕ) (n i : ℕ) (r t : List ℕ) → n ≤ length s → drop n s ≡ r ++ t → i ≤ length r → partOf s (n + i) (n + i + length (drop i r)) ≡ drop i r
+part-run s n i r t h e g =
+    let a : length s - n ≡ length r + length t = sym (length-drop n s) ∙ ap length e ∙ length-append r t in
+    let b : length (drop i r) ≡ length r - i = length-drop i r in
+    let m = length (drop i r) in
+    let p : take (n + i + m - (n + i)) (drop (n + i) s) ≡ partOf s (n + i) (n + i + m) = part-in s (n + i) (n + i + m) (omega arith) (omega arith) in
+    let q : drop (n + i) s ≡ drop i r ++ t = sym (drop-drop i n s) ∙ ap (drop i) e ∙ drop-append-le i r t g in
+    sym p ∙ ap (take (n + i + m - (n + i))) q ∙ take-at (drop i r) t (n + i + m - (n + i)) (omega arith)
+
+-- the range that the code answers stands for the host part
+host-range : (k : Scheme) (s : List ℕ) (x : HostPart) → length (schemeSlashes k) ≤ length s → hostPartOf (lowered (runOf notColon (drop (length (schemeSlashes k)) s))) ≡ some x → hostIn (hostKind x) (lowered (partOf s (hostFrom k x) (hostTo k x))) ≡ x
+host-range k s x h e = host-cases (lowered r) x e (hostIn (hostKind x) (lowered (partOf s (hostFrom k x) (hostTo k x))) ≡ x) any exact below
+  where
+    n : ℕ
+    n = length (schemeSlashes k)
+
+    r : List ℕ
+    r = runOf notColon (drop n s)
+
+    any : x ≡ anyHost → hostIn (hostKind x) (lowered (partOf s (hostFrom k x) (hostTo k x))) ≡ x
+    any f = rw f
+
+    exact : isHost (lowered r) ≡ true → x ≡ exactHost (lowered r) → hostIn (hostKind x) (lowered (partOf s (hostFrom k x) (hostTo k x))) ≡ x
+    exact g f =
+        let u : n + 0 ≡ n = omega arith in
+        let v : length (lowered r) ≡ length r = each-length lower r in
+        let w : partOf s (n + 0) (n + 0 + length r) ≡ r = part-run s n 0 r (past notColon (drop n s)) h (run-cut notColon (drop n s)) (omega arith) in
+        rw (f, v) (ap (λ (l : List ℕ). exactHost (lowered l)) (rw u at w))
+
+    below : isHost (drop 2 (lowered r)) ≡ true → x ≡ subdomainsOf (drop 2 (lowered r)) → hostIn (hostKind x) (lowered (partOf s (hostFrom k x) (hostTo k x))) ≡ x
+    below g f =
+        let d : drop 2 (lowered r) ≡ lowered (drop 2 r) = sym (each-drop lower 2 r) in
+        let v : length (lowered (drop 2 r)) ≡ length (drop 2 r) = each-length lower (drop 2 r) in
+        let m : length (drop 2 r) ≡ length r - 2 = length-drop 2 r in
+        let i : 1 ≤ length (lowered (drop 2 r)) = rw d at (host-some (drop 2 (lowered r)) g) in
+        rw (f, d, v) (ap (λ (l : List ℕ). subdomainsOf (lowered l)) (part-run s n 2 r (past notColon (drop n s)) h (run-cut notColon (drop n s)) (omega arith)))
+
+-- the range that the code answers stands for the expression
+pub expression-range : (s : List ℕ) (e : SourceExpression) → expressionOf s ≡ some e → expressionIn s (expressionRange e) ≡ e
+expression-range s e f =
+    source-cases s e f (expressionIn s (expressionRange e) ≡ e) (λ k g. rw g)
+    (λ p. ap {B = SourceExpression} (λ (x : HostPart). record { scheme = e .scheme; host = x; port = e .port }) (host-range (e .scheme) s (e .host) (p .long) (p .host)))
+
+-- an expression that a text is has a host and a port by document 01
+port-good : (l : List ℕ) (p : PortPart) (a b c : Bool) → isPortPart l ≡ c → pick a (some Default) (pick b (some Any) (pick c (some (Number (decimal l))) none)) ≡ some p → GoodPort p
+unfolding pick
+port-good l p true b c u e = let q : Default ≡ p = cc in subst (λ (x : PortPart). GoodPort x) q tt
+port-good l p false true c u e = let q : Any ≡ p = cc in subst (λ (x : PortPart). GoodPort x) q tt
+port-good l p false false true u e =
+    let q : Number (decimal l) ≡ p = cc in
+    subst (λ (x : PortPart). GoodPort x) q (number-most l (and-right (leb (length l) portDigits) (isNumber l) (unfold isPortPart in u)))
+port-good l p false false false u e = absurd (let z : _≡_ {A = ℕ} 0 1 = cc in omega arith)
+
+part-good : (l : List ℕ) (p : PortPart) → portPartOf l ≡ some p → GoodPort p
+unfolding portPartOf next
+part-good l p e = port-good (drop 1 l) p (isEmpty l) (sameBytes (drop 1 l) (text "*")) (isPortPart (drop 1 l)) refl e
+
+host-good : (g : List ℕ) (x : HostPart) (p : PortPart) → hostPartOf g ≡ some x → GoodHost x p
+host-good g x p e =
+    host-cases g x e (GoodHost x p) (λ f. subst (λ (y : HostPart). GoodHost y p) (sym f) tt)
+    (λ h f. subst (λ (y : HostPart). GoodHost y p) (sym f) h) (λ h f. subst (λ (y : HostPart). GoodHost y p) (sym f) h)
+
+pub expression-good : (s : List ℕ) (e : SourceExpression) → expressionOf s ≡ some e → GoodExpression e
+expression-good s e f =
+    source-cases s e f (GoodExpression e) (λ k g. subst (λ (y : SourceExpression). GoodExpression y) (sym g) (record { host = refl; port = tt }))
+    (λ p. record { host = host-good (lowered (runOf notColon (drop (length (schemeSlashes (e .scheme))) s))) (e .host) (e .port) (p .host); port = part-good (past notColon (drop (length (schemeSlashes (e .scheme))) s)) (e .port) (p .port) })
+
+-- the default port dropped: the same origins are admitted
+port-normal : (k : Scheme) (p : PortPart) (n : ℕ) → portAdmits (normalPort k p) k n ≡ portAdmits p k n
+unfolding portAdmits normalPort
+port-normal k Default n = refl
+port-normal k Any n = refl
+port-normal k (Number m) n = go (eqb m (defaultPort k)) refl
+  where
+    go : (b : Bool) → eqb m (defaultPort k) ≡ b → portAdmits (pick b Default (Number m)) k n ≡ eqb n m
+    go true e = unfold pick portAdmits in rw (eqb-true m (defaultPort k) e)
+    go false e = unfold pick portAdmits in refl
+
+host-normal : (k : Scheme) (x : HostPart) (p : PortPart) (o : TupleOrigin) → o .scheme ≡ k → hostAdmits x (normalPort k p) o ≡ hostAdmits x p o
+unfolding hostAdmits
+host-normal k noHost p o e = refl
+host-normal k anyHost p o e = rw e (port-normal k p (o .port))
+host-normal k (exactHost h) p o e = rw (e, port-normal k p (o .port))
+host-normal k (subdomainsOf h) p o e = rw (e, port-normal k p (o .port))
+
+tuple-normal : (e : SourceExpression) (o : TupleOrigin) (b : Bool) → sameScheme (e .scheme) (o .scheme) ≡ b → b && hostAdmits (e .host) (normalPort (e .scheme) (e .port)) o ≡ b && hostAdmits (e .host) (e .port) o
+tuple-normal e o true s = host-normal (e .scheme) (e .host) (e .port) o (sym (scheme-is (e .scheme) (o .scheme) s))
+tuple-normal e o false s = refl
+
+-- an expression and its normal form admit the same origins
+pub normal-admits : (e : SourceExpression) (o : Origin) → admits (normal e) o ≡ admits e o
+unfolding admits admitsTuple normal
+normal-admits e (tuple o) = tuple-normal e o (sameScheme (e .scheme) (o .scheme)) refl
+normal-admits e (opaque n) = refl
+normal-admits e fresh = refl
+
+port-twice : (k : Scheme) (p : PortPart) → normalPort k (normalPort k p) ≡ normalPort k p
+unfolding normalPort
+port-twice k Default = refl
+port-twice k Any = refl
+port-twice k (Number n) = go (eqb n (defaultPort k)) refl
+  where
+    go : (b : Bool) → eqb n (defaultPort k) ≡ b → normalPort k (pick b Default (Number n)) ≡ pick b Default (Number n)
+    go true e = unfold pick normalPort in refl
+    go false e = unfold pick normalPort in rw e
+
+-- the normal form of an expression is an expression, and its own normal form
+pub normal-normal : (e : SourceExpression) → normal (normal e) ≡ normal e
+unfolding normal
+normal-normal e = ap {B = SourceExpression} (λ (p : PortPart). record { scheme = e .scheme; host = e .host; port = p }) (port-twice (e .scheme) (e .port))
+
+port-stays-good : (k : Scheme) (p : PortPart) → GoodPort p → GoodPort (normalPort k p)
+unfolding normalPort
+port-stays-good k Default g = tt
+port-stays-good k Any g = tt
+port-stays-good k (Number n) g = go (eqb n (defaultPort k))
+  where
+    go : (b : Bool) → GoodPort (pick b Default (Number n))
+    go true = unfold pick in tt
+    go false = unfold pick in g
+
+host-stays-good : (k : Scheme) (x : HostPart) (p : PortPart) → GoodHost x p → GoodHost x (normalPort k p)
+host-stays-good k noHost p g = unfold normalPort in rw g
+host-stays-good k anyHost p g = tt
+host-stays-good k (exactHost h) p g = g
+host-stays-good k (subdomainsOf h) p g = g
+
+pub normal-reads : (s : List ℕ) (e : SourceExpression) → expressionOf s ≡ some e → expressionOf (normalForm e) ≡ some (normal e)
+normal-reads s e f =
+    let g = expression-good s e f in
+    text-back (normal e) (record { host = unfold normal in host-stays-good (e .scheme) (e .host) (e .port) (g .host); port = unfold normal in port-stays-good (e .scheme) (e .port) (g .port) })
+
+-- so normal forms are fixed points
+pub normal-fixed : (s : List ℕ) (e d : SourceExpression) → expressionOf s ≡ some e → expressionOf (normalForm e) ≡ some d → normalForm d ≡ normalForm e
+normal-fixed s e d f g =
+    let q : normal e ≡ d = cc (normal-reads s e f) in
+    ap expressionText (ap normal (sym q) ∙ normal-normal e)
