@@ -83,6 +83,10 @@ partedOf x l =
     (next m (λ n. skip isBlank n (λ o. pick (isEmpty o) fail (more (x ∷ []) o))))
     fail))
 
+-- the same, whatever the member is
+abbrev pub partedBy : List ℕ → Step (Unit {0})
+partedBy l = partedOf tt l
+
 unfoldable pub dictTurn : List ℕ → Step Member
 dictTurn l = going (memberOf l) (λ x m. partedOf x m)
 

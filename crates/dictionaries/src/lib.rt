@@ -5,7 +5,7 @@ ghost use Prim.Native.Nat.{_≤_, _<_};
 ghost use lib.ListN.{length, drop};
 ghost use Rattle.ascii.specs.Places.{IsFrom, IsTurn};
 ghost use Rattle.ascii.specs.Reading.{turnsOf};
-ghost use Rattle.dictionaries.specs.Dictionaries.{innerTurn, innerOf, listOf, loneOf, valueOf, closedOf, assignedOf, memberOf, partedOf, dictTurn, dictionary, bareKey};
+ghost use Rattle.dictionaries.specs.Dictionaries.{innerTurn, innerOf, listOf, loneOf, valueOf, closedOf, assignedOf, memberOf, partedBy, dictTurn, dictionary, bareKey};
 ghost use Rattle.dictionaries.specs.Lookup.{into, newest, oneOf, foldParsed, answered, endOf, lastFound, isSome, IsValue, IsMember, IsPointed};
 use ascii::Class;
 use ascii::Read;
@@ -235,7 +235,7 @@ fn end_of(v: MemberFound) -> Read
 // What stands past a member: the end, or a comma and another member.
 fn parted(s: &[u8], at: usize) -> Turn
     requires { ⌜ at ≤ length (now s) ⌝ }
-    ensures { λ r. ⌜ IsTurn (now (s .entry)) at r (partedOf tt (drop at (now (s .entry)))) ⌝ }
+    ensures { λ r. ⌜ IsTurn (now (s .entry)) at r (partedBy (drop at (now (s .entry)))) ⌝ }
 {
     let e = ascii::run_end(s, at, Class::Blank);
     let n = e + 1;

@@ -287,7 +287,7 @@ pub past-item : (s : List ℕ) (i n : ℕ) (r : ItemRead) (f : ItemFound) (p : R
 past-item s i n r f p a b e c d = omega (arith, found-low r f e, found-high r f e, ap low d)
 
 -- the text that an item's range says is the item's
-part-took : (s t m : List ℕ) (i : ℕ) → i ≤ length s → drop i s ≡ t ++ m → partOf s i (i + length t) ≡ t
+pub part-took : (s t m : List ℕ) (i : ℕ) → i ≤ length s → drop i s ≡ t ++ m → partOf s i (i + length t) ≡ t
 part-took s t m i h e =
     let n : length t + length m ≡ length s - i = sym (length-append t m) ∙ (sym (ap length e) ∙ length-drop i s) in
     sym (part-in s i (i + length t) (omega arith) (omega arith)) ∙ (rw e (take-at t m (i + length t - i) (omega arith)))
