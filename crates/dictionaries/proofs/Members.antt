@@ -39,6 +39,7 @@ module _ (s : List ℕ) (i : ℕ) (r : Read) (is : leftAt s r ≡ restOf (keyOf 
       where
         same : (k : List ℕ) (g : Parsed Placed) → valueFound s g ≡ memberValue s (mapped (λ p. record { key = k; placed = p }) g)
         same = unfold valueFound memberValue mapped in (λ k. elim [ parsed p l ↦ refl | malformed ↦ refl ])
+
         go : (g : Parsed (List ℕ)) → leftAt s (read.At q) ≡ restOf g → v ≡ memberValue s (after g (λ k m. mapped (λ p. record { key = k; placed = p }) (assignedOf m)))
         go = unfold after in (elim [ parsed k m ↦ λ u. e ∙ (ap (λ (l : List ℕ). valueFound s (assignedOf l)) (left-parsed s m q k u) ∙ same k (assignedOf m)) | malformed ↦ λ u. absurd (left-not (List ℕ) s q u) ])
 
@@ -48,11 +49,15 @@ module _ (s : List ℕ) (i : ℕ) (r : Read) (is : leftAt s r ≡ restOf (keyOf 
       where
         named : (k : List ℕ) → partOf s i q ≡ k → (g : Parsed Placed) → KeyIs s i q (mapped (λ p. record { key = k; placed = p }) g)
         named = unfold mapped in (λ k e. elim [ parsed p l ↦ e | malformed ↦ tt ])
+
         go : (g : Parsed (List ℕ)) → leftAt s (read.At q) ≡ restOf g → Took (λ k. k) (drop i s) g → KeyIs s i q (after g (λ k m. mapped (λ p. record { key = k; placed = p }) (assignedOf m)))
-        go = unfold after in (elim [ parsed k m ↦ λ u t.
-            let d : drop q s ≡ m = left-parsed s m q k u in
-            let w : q ≡ i + length k = omega (arith, ap high at, sym (length-drop i s) ∙ ap length t, length-append k m, sym (length-drop q s) ∙ ap length d) in
-            named k (rw w (part-took s k m i h t)) (assignedOf m) | malformed ↦ λ u t. absurd (left-not (List ℕ) s q u) ])
+        go = unfold after in (elim [
+          | parsed k m ↦ λ u t.
+              let d : drop q s ≡ m = left-parsed s m q k u in
+              let w : q ≡ i + length k = omega (arith, ap high at, sym (length-drop i s) ∙ ap length t, length-append k m, sym (length-drop q s) ∙ ap length d) in
+              named k (rw w (part-took s k m i h t)) (assignedOf m)
+          | malformed ↦ λ u t. absurd (left-not (List ℕ) s q u)
+        ])
 
   pub member-none : r ≡ read.Malformed → found.NotADictionary ≡ memberValue s (memberOf (drop i s))
   unfolding memberOf
@@ -186,6 +191,7 @@ module _ (s key : List ℕ) (r : MemberFound) (is : r ≡ lastFound s key) where
     where
       deep : (o : Option Member) → answerOf s (some o) ≡ found.NotADictionary → ⊥
       deep = unfold answerOf placedAt in (elim [ some m ↦ λ u. placed-not (m .placed) (m .placed .value) u | none ↦ λ u. (let z : _≡_ {A = ℕ} 0 1 = cc in omega arith) ])
+
       go : (d : Option (List Member)) → answerOf s (lastIn key d) ≡ found.NotADictionary → false ≡ isSome d
       go = unfold lastIn isSome in (elim [ some ms ↦ λ u. absurd (deep (into (latest key) none ms) u) | none ↦ λ u. refl ])
 

@@ -97,9 +97,12 @@ module _ (s : List ℕ) (i : ℕ) (h : i ≤ length s) (r : Read) (is : leftAt s
     list-found n e g = go (innerOf (drop i s)) (left-at s r q _ at is)
       where
         go : (k : Parsed (List Item)) → leftAt s (read.At q) ≡ restOf k → found.List (record { first = i; params = record { from = q; to = n } }) ≡ valueFound s (after k (λ xs m. closedOf (many xs) (drop i s) m))
-        go = unfold after in (elim [ parsed xs m ↦ λ v.
-            let d : drop q s ≡ m = left-parsed s m q xs v in
-            (λ j. found.List (record { first = sym (place-of s i h) j; params = record { from = q; to = n } })) ∙ (closed-many s (drop i s) q p ps n e g (omega (arith, ap high at)) xs ∙ ap (λ (z : List ℕ). valueFound s (closedOf (many xs) (drop i s) z)) d) | malformed ↦ λ v. absurd (left-not (List Item) s q v) ])
+        go = unfold after in (elim [
+          | parsed xs m ↦ λ v.
+              let d : drop q s ≡ m = left-parsed s m q xs v in
+              (λ j. found.List (record { first = sym (place-of s i h) j; params = record { from = q; to = n } })) ∙ (closed-many s (drop i s) q p ps n e g (omega (arith, ap high at)) xs ∙ ap (λ (z : List ℕ). valueFound s (closedOf (many xs) (drop i s) z)) d)
+          | malformed ↦ λ v. absurd (left-not (List Item) s q v)
+        ])
 
     pub list-unread : p ≡ read.Malformed → found.NotADictionary ≡ valueFound s (listOf (drop i s))
     unfolding listOf
@@ -126,12 +129,16 @@ module _ (s : List ℕ) (i : ℕ) (h : i ≤ length s) (r : ItemRead) (is : r �
       where
         within : fd .next ≤ length s
         within = rw at at high-r
+
         go : (k : Parsed Item) → item.Found fd ≡ itemFound s i k → leftAt s (read.At (fd .next)) ≡ restOf k → found.Item (record { item = fd .range; params = record { from = fd .next; to = n } }) ≡ valueFound s (after k (λ x m. closedOf (one x) (drop i s) m))
-        go = unfold after itemFound in (elim [ parsed x m ↦ λ u v.
-            let d : drop (fd .next) s ≡ m = left-parsed s m (fd .next) x v in
-            let w : fd .range ≡ itemRange i x = cc in
-            let y : fd .range ≡ itemRange (length s - length (drop i s)) x = w ∙ ap (λ (z : ℕ). itemRange z x) (sym (place-of s i h)) in
-            (λ j. found.Item (record { item = y j; params = record { from = fd .next; to = n } })) ∙ (closed-one s (drop i s) (fd .next) p ps n e g within x ∙ ap (λ (z : List ℕ). valueFound s (closedOf (one x) (drop i s) z)) d) | malformed ↦ λ u v. absurd (left-not Item s (fd .next) v) ])
+        go = unfold after itemFound in (elim [
+          | parsed x m ↦ λ u v.
+              let d : drop (fd .next) s ≡ m = left-parsed s m (fd .next) x v in
+              let w : fd .range ≡ itemRange i x = cc in
+              let y : fd .range ≡ itemRange (length s - length (drop i s)) x = w ∙ ap (λ (z : ℕ). itemRange z x) (sym (place-of s i h)) in
+              (λ j. found.Item (record { item = y j; params = record { from = fd .next; to = n } })) ∙ (closed-one s (drop i s) (fd .next) p ps n e g within x ∙ ap (λ (z : List ℕ). valueFound s (closedOf (one x) (drop i s) z)) d)
+          | malformed ↦ λ u v. absurd (left-not Item s (fd .next) v)
+        ])
 
     pub item-unread : p ≡ read.Malformed → found.NotADictionary ≡ valueFound s (loneOf (drop i s))
     unfolding loneOf
@@ -220,11 +227,14 @@ module _ (s : List ℕ) (c i x : ℕ) (e : drop i s ≡ past isSpace (drop c s))
       cursor-found b t = go (itemOf (drop i s)) (sym at ∙ is) (rw at at left) ∙ cursor-item g
         where
           go : (k : Parsed Item) → item.Found fd ≡ itemFound s i k → leftAt s (read.At (fd .next)) ≡ restOf k → pick b (list.Item fd) list.End ≡ pointedAt s (drop i s) k
-          go = unfold pointedAt itemFound in (elim [ parsed z m ↦ λ a d.
-              let w : drop (fd .next) s ≡ m = left-parsed s m (fd .next) z d in
-              let o : fd ≡ record { range = itemRange i z; next = length s - length m } = cc in
-              let q : headOf m ≡ y = sym (v ∙ ap headOf w) in
-              rw (q, t, place-of s i h, o) refl | malformed ↦ λ a d. absurd (left-not Item s (fd .next) d) ])
+          go = unfold pointedAt itemFound in (elim [
+            | parsed z m ↦ λ a d.
+                let w : drop (fd .next) s ≡ m = left-parsed s m (fd .next) z d in
+                let o : fd ≡ record { range = itemRange i z; next = length s - length m } = cc in
+                let q : headOf m ≡ y = sym (v ∙ ap headOf w) in
+                rw (q, t, place-of s i h, o) refl
+            | malformed ↦ λ a d. absurd (left-not Item s (fd .next) d)
+          ])
 
       pub cursor-space : y ≡ 32 → list.Item fd ≡ cursorAt s c
       unfolding pick
