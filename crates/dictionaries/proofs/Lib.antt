@@ -1,3 +1,5 @@
 pub mod Folds
 pub mod Values
 pub mod Members
+pub mod Standing
+pub mod Laws
