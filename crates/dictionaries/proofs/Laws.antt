@@ -15,7 +15,7 @@ use Rattle.items.specs.Found.{itemAs}
 use Rattle.items.specs.declared.ItemFound.{ItemFound}
 use Rattle.dictionaries.specs.Dictionaries.{Value, Member, Plain, innerTurn, dictionary, plains, plainly, members}
 use Rattle.dictionaries.specs.Dictionaries.Value.{one, many}
-use Rattle.dictionaries.specs.Lookup.{into, later, lastValueIn, lastFound, cursorAt, onward, walk, itemsFrom, foundAs, isSome}
+use Rattle.dictionaries.specs.Lookup.{into, later, lastValueIn, lastFound, cursorAt, onward, walk, itemsFrom, foundAs, isSome, lowNext, highNext}
 use Rattle.dictionaries.specs.Added.{OneItemMore}
 use Rattle.dictionaries.specs.declared.MemberItem.{MemberItem}
 use Rattle.dictionaries.specs.declared.MemberList.{MemberList}
@@ -122,3 +122,10 @@ last-grown s t o key =
       is-second = ap (lastValueIn key) (o .second);
       grows = grown-in key (o .before) (o .behind) (o .key) (o .front) (o .back) (o .item);
     }
+
+-- the next cursor, for `omega`
+pub next-low : (r : ListItem) (f : ItemFound) → r ≡ list.Item f → lowNext r ≡ f .next
+next-low r f e = rw e
+
+pub next-high : (r : ListItem) (f : ItemFound) → r ≡ list.Item f → highNext r ≡ f .next
+next-high r f e = rw e

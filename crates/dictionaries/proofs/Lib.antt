@@ -3,3 +3,5 @@ pub mod Values
 pub mod Members
 pub mod Standing
 pub mod Laws
+pub mod Tallies
+pub mod Headers

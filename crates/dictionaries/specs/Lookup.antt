@@ -33,6 +33,11 @@ unfoldable pub into : {A B : Type 0} → (B → A → B) → B → List A → B
 into k b [] = b
 into k b (x ∷ xs) = into k (k b x) xs
 
+-- whether there is something: a text is a dictionary exactly if it has members
+unfoldable pub isSome : {A : Type 0} → Option A → Bool
+isSome (some a) = true
+isSome none = false
+
 -- 01, "Header and attribute": "A repeated key keeps only its last value"
 unfoldable pub latest : List ℕ → Option Member → Member → Option Member
 latest key b m = pick (sameBytes (m .key) key) (some m) b
@@ -161,8 +166,3 @@ pub record IsPointed (s : List ℕ) (c : ℕ) (r : ListItem) : Type 0 where
   pub is : r ≡ cursorAt s c
   pub past : c < lowNext r
   pub upto : highNext r ≤ length s
-
--- whether the text is a dictionary
-unfoldable pub isSome : {A : Type 0} → Option A → Bool
-isSome (some a) = true
-isSome none = false

@@ -247,10 +247,9 @@ fn parted(s: &[u8], at: usize) -> Turn
     }
     let q = ascii::run_end(s, n, Class::Blank);
     if s.len() <= q {
-        Turn::Malformed
-    } else {
-        Turn::More(q)
+        return Turn::Malformed; // a trailing comma
     }
+    Turn::More(q)
 }
 
 // A member and what stands past it.
