@@ -2,3 +2,4 @@ pub mod Bytes
 pub mod Texts
 pub mod Reading
 pub mod Looping
+pub mod Suffixes

@@ -1,6 +1,6 @@
 -- A repeated part, turn by turn. Assumes nothing.
 use mathlib.Core.Path.{_≡_, refl, ap, _∙_, sym}
-use Prim.Native.Nat.{ℕ, zero, suc, _+_, _≤_, _<_}
+use Prim.Native.Nat.{ℕ, zero, suc, _+_, _≤_, _<_, min}
 use mathlib.Core.List.{List, [], _∷_}
 use mathlib.Core.Option.{Option, some, none}
 use native.Mathlib.Omega.{arith}
@@ -11,6 +11,7 @@ use Rattle.ascii.specs.Reading.Parsed.{parsed, malformed}
 use Rattle.ascii.specs.Reading.Step.{more, done, fail}
 use Rattle.ascii.specs.Places.{restOf, leftAt, wentOf, wentAt, Went, lowMore}
 use Rattle.ascii.specs.Places.Went.{goes, ends, fails}
+use Rattle.ascii.proofs.Reading.{place-drop}
 use Rattle.ascii.specs.declared.Read.{Read}
 use Rattle.ascii.specs.declared.Read.the-variants as read
 use Rattle.ascii.specs.declared.Turn.{Turn}
@@ -42,6 +43,10 @@ pub record Left {A : Type 0} (f : List ℕ → Step A) (s : List ℕ) (i : ℕ) 
 pub left-start : {A : Type 0} (f : List ℕ → Step A) (s : List ℕ) (i : ℕ) → Left f s i (restOf (turnsOf f (drop i s)))
 left-start f s i = record { fuel = suc (length (drop i s)); enough = omega (arith, length-drop i s); same = refl }
 
+-- the same, from a place that may lie past the end
+pub left-place : {A : Type 0} (f : List ℕ → Step A) (s : List ℕ) (at i : ℕ) → i ≡ min at (length s) → Left f s i (restOf (turnsOf f (drop at s)))
+left-place f s at i e = rw (← place-drop s at i e) (left-start f s i)
+
 module _ {A : Type 0} (f : List ℕ → Step A) (s : List ℕ) (i : ℕ) (R : Option (List ℕ)) (t : Turn) (is : wentAt s t ≡ wentOf (f (drop i s))) where
   one-turn : (n : ℕ) → restOf (turns f (suc n) (drop i s)) ≡ onWent (wentAt s t) (λ l. restOf (turns f n l))
   unfolding turns
@@ -68,4 +73,4 @@ module _ {A : Type 0} (f : List ℕ → Step A) (s : List ℕ) (i : ℕ) (R : Op
       go zero k m = absurd (omega arith)
       go (suc n) k m = unfold onWent wentAt leftAt in (rw e at (sym (one-turn n) ∙ m))
 
-pub ruleset loops = (left-start, left-go, left-done, left-fail, needs)
+pub ruleset loops = (left-start, left-place, left-go, left-done, left-fail, needs)

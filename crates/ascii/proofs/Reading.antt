@@ -214,6 +214,22 @@ rest-len s R p i e f h a b g =
     let n : length (runOf p (drop i s)) ≡ e - i = omega (arith, sym (length-drop i s) ∙ ap length (run-cut p (drop i s)), length-append (runOf p (drop i s)) (past p (drop i s)), sym (ap length h), length-drop e s) in
     rw n g
 
+-- a run by the place past it, wherever it starts: one of some bytes, and none
+module _ {A : Type 0} (s : List ℕ) (R : Option (List ℕ)) (p : ℕ → Bool) (i e : ℕ) (f : ℕ → Parsed A) (h : drop e s ≡ past p (drop i s)) where
+  run-length : e ≤ length s → length (runOf p (drop i s)) ≡ e - i
+  run-length b = omega (arith, sym (length-drop i s) ∙ ap length (run-cut p (drop i s)), length-append (runOf p (drop i s)) (past p (drop i s)), sym (ap length h), length-drop e s)
+
+  pub rest-run : i < e → e ≤ length s → R ≡ restOf (f (e - i)) → R ≡ restOf (letLen (runOf p (drop i s)) f)
+  unfolding letLen
+  rest-run a b g = rw (run-length b) g
+
+  pub rest-no-run : e ≤ i → e ≤ length s → R ≡ restOf (f 0) → R ≡ restOf (letLen (runOf p (drop i s)) f)
+  unfolding letLen
+  rest-no-run a b g = let z : length (runOf p (drop i s)) ≡ 0 = omega (arith, run-length b) in rw z g
+
+pub run-some : (i e : ℕ) → i < e → eqb (e - i) 0 ≡ false
+run-some i e h = ne-eqb (e - i) 0 (λ z. omega arith)
+
 pub rest-malformed : {A B : Type 0} (s : List ℕ) (a : Parsed B) (r : Read) (f : B → List ℕ → Parsed A) → leftAt s r ≡ restOf a → r ≡ read.Malformed → leftAt s read.Malformed ≡ restOf (after a f)
 unfolding after restOf leftAt
 rest-malformed s (parsed x l) r f e g =
@@ -233,7 +249,7 @@ rest-none A s = refl
 pub two-on : (s : List ℕ) (i : ℕ) → drop (i + 2) s ≡ drop (i + 1 + 1) s
 two-on s i = let e : i + 2 ≡ i + 1 + 1 = omega arith in rw e
 
-pub ruleset reads = (rest-yes, rest-no, rest-next, rest-skip, rest-after, rest-map, rest-start, rest-len, eq-eqb, ne-eqb, le-leb, lt-leb, rest-malformed, rest-parsed, rest-none, two-on, key-run, token-run, tests)
+pub ruleset reads = (rest-yes, rest-no, rest-next, rest-skip, rest-after, rest-map, rest-start, rest-len, rest-run, rest-no-run, run-some, eq-eqb, ne-eqb, le-leb, lt-leb, rest-malformed, rest-parsed, rest-none, two-on, key-run, token-run, tests)
 
 -- the same of a turn
 module _ {A : Type 0} (s : List ℕ) (R : Went) where

@@ -1,0 +1,4 @@
+pub mod Dictionaries
+pub mod Lookup
+pub mod Added
+pub mod Examples

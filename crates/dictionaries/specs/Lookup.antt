@@ -1,0 +1,168 @@
+-- The last member of a key, and the items of a list one after the other: as data, and as the code's answers.
+use Prim.Native.Nat.{ℕ, zero, suc, _+_, _-_, _^_, _≤_, _<_}
+use mathlib.Core.Path.{_≡_}
+use mathlib.Core.List.{List, [], _∷_, _++_}
+use mathlib.Core.Bool.{Bool, true, false, _||_}
+use mathlib.Core.Option.{Option, some, none}
+use lib.ListN.{length, drop}
+use lib.Dec.{eqb}
+use Rattle.ascii.specs.Bytes.{pick}
+use Rattle.ascii.specs.Texts.{sameBytes, partOf}
+use Rattle.ascii.specs.Reading.{Parsed, Step, headOf, skip}
+use Rattle.ascii.specs.Reading.Parsed.{parsed, malformed}
+use Rattle.ascii.specs.Reading.Step.{more, done, fail}
+use Rattle.ascii.specs.Places.{restOf, leftAt, low, high}
+use Rattle.ascii.specs.declared.Read.{Read}
+use Rattle.ascii.specs.declared.Read.the-variants as read
+use Rattle.items.specs.Items.{Item, isSpace, itemOf}
+use Rattle.items.specs.Found.{itemRange, itemAs}
+use Rattle.items.specs.declared.ItemFound.{ItemFound}
+use Rattle.dictionaries.specs.Dictionaries.{Value, Placed, Member, Plain, innerTurn, dictionary, plain}
+use Rattle.dictionaries.specs.Dictionaries.Value.{one, many}
+use Rattle.dictionaries.specs.declared.TextRange.{TextRange}
+use Rattle.dictionaries.specs.declared.MemberItem.{MemberItem}
+use Rattle.dictionaries.specs.declared.MemberList.{MemberList}
+use Rattle.dictionaries.specs.declared.MemberFound.{MemberFound}
+use Rattle.dictionaries.specs.declared.MemberFound.the-variants as found
+use Rattle.dictionaries.specs.declared.MemberAt.{MemberAt}
+use Rattle.dictionaries.specs.declared.ListItem.{ListItem}
+use Rattle.dictionaries.specs.declared.ListItem.the-variants as list
+
+-- a fold from the left
+unfoldable pub into : {A B : Type 0} → (B → A → B) → B → List A → B
+into k b [] = b
+into k b (x ∷ xs) = into k (k b x) xs
+
+-- whether there is something: a text is a dictionary exactly if it has members
+unfoldable pub isSome : {A : Type 0} → Option A → Bool
+isSome (some a) = true
+isSome none = false
+
+-- 01, "Header and attribute": "A repeated key keeps only its last value"
+unfoldable pub latest : List ℕ → Option Member → Member → Option Member
+latest key b m = pick (sameBytes (m .key) key) (some m) b
+
+unfoldable pub lastIn : List ℕ → Option (List Member) → Option (Option Member)
+lastIn key (some ms) = some (into (latest key) none ms)
+lastIn key none = none
+
+-- the same of members without their places
+unfoldable pub later : List ℕ → Option Value → Plain → Option Value
+later key b m = pick (sameBytes (m .key) key) (some (m .value)) b
+
+unfoldable pub lastValueIn : List ℕ → Option (List Plain) → Option (Option Value)
+lastValueIn key (some ms) = some (into (later key) none ms)
+lastValueIn key none = none
+
+-- the places of a value and of the member's parameters, by what is left there
+unfoldable pub valueAt : List ℕ → Placed → Value → MemberFound
+valueAt s p (one x) = found.Item (record { item = itemRange (length s - p .start) x; params = record { from = length s - p .params; to = length s - p .end } })
+valueAt s p (many xs) = found.List (record { first = length s - p .start; params = record { from = length s - p .params; to = length s - p .end } })
+
+unfoldable pub placedAt : List ℕ → Placed → MemberFound
+placedAt s p = valueAt s p (p .value)
+
+unfoldable pub answerOf : List ℕ → Option (Option Member) → MemberFound
+answerOf s none = found.NotADictionary
+answerOf s (some none) = found.Absent
+answerOf s (some (some m)) = placedAt s (m .placed)
+
+-- the answer for the last member of a key
+abbrev pub lastFound : List ℕ → List ℕ → MemberFound
+lastFound s key = answerOf s (lastIn key (dictionary s))
+
+-- what is read at a cursor of an inner list: an item, or nothing where ")" stands or the text is malformed
+unfoldable pub pointedAt : List ℕ → List ℕ → Parsed Item → ListItem
+pointedAt s m (parsed x n) =
+    pick (eqb (headOf n) 32 || eqb (headOf n) 41)
+    (list.Item (record { range = itemRange (length s - length m) x; next = length s - length n }))
+    list.End
+pointedAt s m malformed = list.End
+
+unfoldable pub cursorAt : List ℕ → ℕ → ListItem
+cursorAt s c = skip isSpace (drop c s) (λ m. pick (eqb (headOf m) 41) list.End (pointedAt s m (itemOf m)))
+
+-- the items of an inner list from a cursor on, up to ")" or to where the text is malformed
+unfoldable pub onward : Step Item → (List ℕ → List Item) → List Item
+onward (more xs l) f = xs ++ f l
+onward (done xs l) f = xs
+onward fail f = []
+
+unfoldable pub walk : ℕ → List ℕ → List Item
+walk zero l = []
+walk (suc n) l = onward (innerTurn l) (λ m. walk n m)
+
+abbrev pub itemsFrom : List ℕ → ℕ → List Item
+itemsFrom s c = walk (suc (length (drop c s))) (drop c s)
+
+-- what an answer says: none where the text is not a dictionary, some none where it has no such member
+unfoldable pub foundAs : List ℕ → MemberFound → Option (Option Value)
+foundAs s found.NotADictionary = none
+foundAs s found.Absent = some none
+foundAs s (found.Item m) = some (some (one (itemAs s (m .item))))
+foundAs s (found.List m) = some (some (many (itemsFrom s (m .first))))
+
+-- the place past a value and its parameters
+abbrev pub endOf : MemberFound → Read
+endOf (found.Item m) = read.At (m .params .to)
+endOf (found.List m) = read.At (m .params .to)
+endOf found.Absent = read.Malformed
+endOf found.NotADictionary = read.Malformed
+
+unfoldable pub valueFound : List ℕ → Parsed Placed → MemberFound
+valueFound s (parsed p l) = placedAt s p
+valueFound s malformed = found.NotADictionary
+
+-- the answer is the reading's, does not end before its start, and lies within the text
+pub record IsValue (s : List ℕ) (at : ℕ) (r : MemberFound) (want : Parsed Placed) : Type 0 where
+  pub is : r ≡ valueFound s want
+  pub left : leftAt s (endOf r) ≡ restOf want
+  pub from : at ≤ low (endOf r)
+  pub upto : high (endOf r) ≤ length s
+
+abbrev pub KeyIs : List ℕ → ℕ → ℕ → Parsed Member → Type 0
+KeyIs s at to (parsed m l) = partOf s at to ≡ m .key
+KeyIs s at to malformed = Unit {0}
+
+unfoldable pub memberValue : List ℕ → Parsed Member → MemberFound
+memberValue s (parsed m l) = placedAt s (m .placed)
+memberValue s malformed = found.NotADictionary
+
+-- the same of a member, whose key stands at its start
+pub record IsMember (s : List ℕ) (at : ℕ) (r : MemberAt) (want : Parsed Member) : Type 0 where
+  pub is : r .value ≡ memberValue s want
+  pub key : KeyIs s at (r .to) want
+  pub left : leftAt s (endOf (r .value)) ≡ restOf want
+  pub past : at < low (endOf (r .value))
+  pub upto : high (endOf (r .value)) ≤ length s
+
+-- the newest of two answers
+unfoldable pub newest : List ℕ → List ℕ → MemberFound → Member → MemberFound
+newest s key b m = pick (sameBytes (m .key) key) (placedAt s (m .placed)) b
+
+unfoldable pub oneOf : {A : Type 0} → Parsed A → List A
+oneOf (parsed x l) = x ∷ []
+oneOf malformed = []
+
+unfoldable pub foldParsed : {A B : Type 0} → (B → A → B) → B → Parsed (List A) → Option B
+foldParsed k b (parsed xs l) = some (into k b xs)
+foldParsed k b malformed = none
+
+unfoldable pub answered : Option MemberFound → MemberFound
+answered (some r) = r
+answered none = found.NotADictionary
+
+-- the next cursor, as a bound from below and from above
+abbrev pub lowNext : ListItem → ℕ
+lowNext (list.Item f) = f .next
+lowNext list.End = 2 ^ 64
+
+abbrev pub highNext : ListItem → ℕ
+highNext (list.Item f) = f .next
+highNext list.End = 0
+
+-- the answer is what is read at the cursor; the next cursor lies past it, and within the text
+pub record IsPointed (s : List ℕ) (c : ℕ) (r : ListItem) : Type 0 where
+  pub is : r ≡ cursorAt s c
+  pub past : c < lowNext r
+  pub upto : highNext r ≤ length s

@@ -1,0 +1,193 @@
+// The examples of RFC 8941's grammar and document 01's header rows, read by the library: one line for each.
+use dictionaries::ListItem;
+use dictionaries::MemberFound;
+use dictionaries::TextRange;
+use items::ItemKind;
+use items::ItemRange;
+
+fn put(s: &[u8]) {
+    io::write_all(1, s);
+}
+
+// Whether a text is a dictionary.
+fn tell(s: &[u8]) {
+    if dictionaries::is_dictionary(s) {
+        put(b"yes ");
+    } else {
+        put(b"no ");
+    }
+    put(s);
+    put(b"\n");
+}
+
+fn show_item(s: &[u8], item: ItemRange) {
+    let kind = item.kind;
+    let from = item.from;
+    let to = item.to;
+    match kind {
+        ItemKind::Token => put(b"token "),
+        ItemKind::String => put(b"string "),
+        ItemKind::Other => put(b"other"),
+    }
+    put(ascii::part(s, from, to));
+}
+
+fn show_list(s: &[u8], first: usize) {
+    put(b"list");
+    let mut at = first;
+    loop {
+        match dictionaries::item_at(s, at) {
+            ListItem::Item(f) => {
+                let range = f.range;
+                put(b"; ");
+                show_item(s, range);
+                at = f.next;
+            }
+            ListItem::End => return,
+        }
+    }
+}
+
+fn show_params(s: &[u8], range: TextRange) {
+    let from = range.from;
+    let to = range.to;
+    if from < to {
+        put(b"; parameters ");
+        put(ascii::part(s, from, to));
+    }
+}
+
+// The last member of a key.
+fn show(s: &[u8], key: &[u8]) {
+    put(key);
+    put(b" in ");
+    put(s);
+    put(b": ");
+    match dictionaries::member(s, key) {
+        MemberFound::NotADictionary => put(b"malformed"),
+        MemberFound::Absent => put(b"absent"),
+        MemberFound::Item(m) => {
+            let item = m.item;
+            let params = m.params;
+            show_item(s, item);
+            show_params(s, params);
+        }
+        MemberFound::List(m) => {
+            let first = m.first;
+            let params = m.params;
+            show_list(s, first);
+            show_params(s, params);
+        }
+    }
+    put(b"\n");
+}
+
+// Dictionaries.
+fn good_1() {
+    tell(b"");
+    tell(b"  ");
+    tell(b"a");
+    tell(b"a;x;y=1");
+    tell(b"a=(1 2.5 \"x\" tok :YQ==: ?1);p=x");
+    tell(b"a=1 ,\tb=2");
+    tell(b"  a  ");
+    tell(b"a\t");
+    tell(b"a=-0");
+    tell(b"a=()");
+    tell(b"a=( )");
+    tell(b"*k=*");
+}
+
+// Dictionaries.
+fn good_2() {
+    tell(b"*=1");
+    tell(b"a=( a  b )");
+    tell(b"a=::");
+    tell(b"a=(1;x 2;y);z");
+    tell(b"camera=(), camera=1");
+    tell(b"camera=(\"junk\")");
+    tell(b"a=1;  x");
+    tell(b"a=123456789012345");
+    tell(b"a=123456789012.123");
+}
+
+// Texts that are none.
+fn bad_1() {
+    tell(b"A");
+    tell(b"a =1");
+    tell(b"a= 1");
+    tell(b"a,");
+    tell(b",a");
+    tell(b"a=1,,b");
+    tell(b"a=(1");
+    tell(b"a=(1,2)");
+    tell(b"a=1 ;x");
+    tell(b"a=1;X");
+    tell(b"a=1;x=(2)");
+    tell(b"a=\"\xc3\xa9\"");
+}
+
+// Texts that are none.
+fn bad_2() {
+    tell(b"a=\"\\n\"");
+    tell(b"a=\"\\x\"");
+    tell(b"a='b'");
+    tell(b"a=1.");
+    tell(b"a=1.1234");
+    tell(b"a=1234567890123456");
+    tell(b"a=1234567890123.1");
+    tell(b"a=:*:");
+    tell(b"a=:YQ==");
+    tell(b"a=?2");
+    tell(b"\ta");
+    tell(b"\t");
+}
+
+// Texts that are none.
+fn bad_3() {
+    tell(b"a b");
+    tell(b"camera=(self), ");
+    tell(b"Camera=()");
+    tell(b"camera=(self");
+    tell(b"camera=(\tself)");
+    tell(b"a=(1\t2)");
+    tell(b"a=1;\tx");
+    tell(b"a=(b;c= 1)");
+    tell(b"a=\"b");
+    tell(b"a=(b)c");
+    tell(b"a=1\n");
+}
+
+// Members and their items.
+fn looks_1() {
+    show(b"camera=(), camera=1", b"camera");
+    show(b"camera=1, camera=()", b"camera");
+    show(b"camera=(\"junk\")", b"camera");
+    show(b"camera=*;a;b=2, usb=self", b"camera");
+    show(b"camera=*;a;b=2, usb=self", b"usb");
+    show(b"camera=*;a;b=2, usb=self", b"forms");
+    show(b"camera;report-to=\"x\"", b"camera");
+    show(
+        b"a=( self;q=1  \"https://b.example\" 2.5 \"\\\"\" );p;q",
+        b"a",
+    );
+    show(b"a=(b), aa=c, a=d", b"a");
+    show(b"a=(b), aa=c, a=d", b"aa");
+    show(b"a=(b), aa=c,", b"aa");
+    show(b"", b"a");
+}
+
+// Members and their items.
+fn looks_2() {
+    show(b"a=1", b"");
+}
+
+fn main() {
+    good_1();
+    good_2();
+    bad_1();
+    bad_2();
+    bad_3();
+    looks_1();
+    looks_2();
+}
