@@ -1,0 +1,194 @@
+-- What an item says, in the terms of the code. Assumes nothing.
+use mathlib.Core.Path.{_≡_, refl, ap, _∙_, sym}
+use Prim.Native.Nat.{ℕ}
+use mathlib.Core.List.{List, [], _∷_}
+use mathlib.Core.Bool.{Bool, true, false, _||_}
+use mathlib.Core.Option.{Option, some, none}
+use native.Mathlib.Omega.{arith}
+use Rattle.ascii.specs.Bytes.{pick}
+use Rattle.ascii.specs.Literals.{text}
+use Rattle.ascii.specs.Texts.{sameBytes, partOf}
+use Rattle.origins.specs.Origins.{Origin}
+use Rattle.origins.specs.Expressions.{SourceExpression, expressionOf}
+use Rattle.origins.specs.Matching.{admits}
+use Rattle.origins.specs.Answers.{sourceAs, expressionRange, expressionIn}
+use Rattle.origins.specs.declared.ExpressionRange.{ExpressionRange}
+use Rattle.origins.specs.declared.Source.{Source}
+use Rattle.origins.specs.declared.Source.the-variants as answer
+use Rattle.origins.proofs.Laws.{expression-range}
+use Rattle.items.specs.Items.{Item}
+use Rattle.items.specs.Items.Item.{token, string, other}
+use Rattle.items.specs.Found.{itemBy, itemAs}
+use Rattle.items.specs.declared.ItemKind.{ItemKind}
+use Rattle.items.specs.declared.ItemKind.the-variants as kind
+use Rattle.items.specs.declared.ItemRange.{ItemRange}
+use Rattle.declarations.specs.Allowlists.{Meaning, tokenMeaning, sourceMeaning, meaningOf, isStar, isSelf, hasStar, hasSelf, withSource, anyAdmits}
+use Rattle.declarations.specs.Allowlists.Meaning.{star, self, source, nothing}
+use Rattle.declarations.specs.Settings.{meaningAs, itemsAt, IsMarked, undeclared, declaredBy, loneSetting}
+use Rattle.declarations.specs.declared.ItemMeaning.{ItemMeaning}
+use Rattle.declarations.specs.declared.ItemMeaning.the-variants as meaning
+use Rattle.declarations.specs.declared.Marks.{Marks}
+use Rattle.declarations.specs.declared.Cursor.the-variants as cursor
+use Rattle.declarations.specs.declared.Setting.{Setting}
+
+or-true : (b : Bool) → b || true ≡ true
+or-true true = refl
+or-true false = refl
+
+or-none : (b : Bool) → b || false ≡ b
+or-none true = refl
+or-none false = refl
+
+-- a token, test by test
+module _ (t : List ℕ) (a : Bool) (u : a ≡ sameBytes t (text "*")) where
+  pub token-all : a ≡ true → meaning.All ≡ meaningAs (tokenMeaning t)
+  unfolding tokenMeaning pick
+  token-all v = rw (← u, v)
+
+  module _ (v : a ≡ false) (b : Bool) (w : b ≡ sameBytes t (text "self")) where
+    pub token-own : b ≡ true → meaning.Own ≡ meaningAs (tokenMeaning t)
+    unfolding tokenMeaning pick
+    token-own x = rw (← u, v, ← w, x)
+
+    pub token-nothing : b ≡ false → meaning.Nothing ≡ meaningAs (tokenMeaning t)
+    unfolding tokenMeaning pick
+    token-nothing x = rw (← u, v, ← w, x)
+
+-- a string, by what it is read as
+pub string-source : (x : Option SourceExpression) (r : Source) (e : ExpressionRange) → r ≡ sourceAs x → r ≡ answer.Expression e → meaning.Source e ≡ meaningAs (sourceMeaning x)
+unfolding sourceMeaning
+string-source (some y) r e h k = let q : expressionRange y ≡ e = cc in ap meaning.Source (sym q)
+string-source none r e h k = absurd (let z : _≡_ {A = ℕ} 0 1 = cc in omega arith)
+
+pub string-nothing : (x : Option SourceExpression) (r : Source) → r ≡ sourceAs x → r ≡ answer.NotAnExpression → meaning.Nothing ≡ meaningAs (sourceMeaning x)
+unfolding sourceMeaning
+string-nothing (some y) r h k = absurd (let z : _≡_ {A = ℕ} 0 1 = cc in omega arith)
+string-nothing none r h k = refl
+
+-- an item by its kind
+module _ (s : List ℕ) (p : ItemRange) (t : List ℕ) (m : t ≡ partOf s (p .from) (p .to)) (r : ItemMeaning) where
+  pub item-token : r ≡ meaningAs (tokenMeaning t) → p .kind ≡ kind.Token → r ≡ meaningAs (meaningOf (itemAs s p))
+  unfolding itemAs itemBy meaningOf
+  item-token h k = rw (k, ← m) h
+
+  pub item-string : r ≡ meaningAs (sourceMeaning (expressionOf t)) → p .kind ≡ kind.String → r ≡ meaningAs (meaningOf (itemAs s p))
+  unfolding itemAs itemBy meaningOf
+  item-string h k = rw (k, ← m) h
+
+pub item-other : (s : List ℕ) (p : ItemRange) → p .kind ≡ kind.Other → meaning.Nothing ≡ meaningAs (meaningOf (itemAs s p))
+unfolding itemAs itemBy meaningOf
+item-other s p k = rw k
+
+-- the meaning that an answer tells
+module _ (x : Meaning) (r : ItemMeaning) (h : r ≡ meaningAs x) where
+  told-star : r ≡ meaning.All → x ≡ star
+  told-star k = go x h
+    where
+      go : (x : Meaning) → r ≡ meaningAs x → x ≡ star
+      go star e = refl
+      go self e = absurd (let z : _≡_ {A = ℕ} 0 1 = cc in omega arith)
+      go (source y) e = absurd (let z : _≡_ {A = ℕ} 0 1 = cc in omega arith)
+      go nothing e = absurd (let z : _≡_ {A = ℕ} 0 1 = cc in omega arith)
+
+  told-self : r ≡ meaning.Own → x ≡ self
+  told-self k = go x h
+    where
+      go : (x : Meaning) → r ≡ meaningAs x → x ≡ self
+      go star e = absurd (let z : _≡_ {A = ℕ} 0 1 = cc in omega arith)
+      go self e = refl
+      go (source y) e = absurd (let z : _≡_ {A = ℕ} 0 1 = cc in omega arith)
+      go nothing e = absurd (let z : _≡_ {A = ℕ} 0 1 = cc in omega arith)
+
+  told-nothing : r ≡ meaning.Nothing → x ≡ nothing
+  told-nothing k = go x h
+    where
+      go : (x : Meaning) → r ≡ meaningAs x → x ≡ nothing
+      go star e = absurd (let z : _≡_ {A = ℕ} 0 1 = cc in omega arith)
+      go self e = absurd (let z : _≡_ {A = ℕ} 0 1 = cc in omega arith)
+      go (source y) e = absurd (let z : _≡_ {A = ℕ} 0 1 = cc in omega arith)
+      go nothing e = refl
+
+  told-source : (e : ExpressionRange) → r ≡ meaning.Source e → (y : SourceExpression) × (x ≡ source y) × (expressionRange y ≡ e)
+  told-source e k = go x h
+    where
+      go : (x : Meaning) → r ≡ meaningAs x → (y : SourceExpression) × (x ≡ source y) × (expressionRange y ≡ e)
+      go star f = absurd (let z : _≡_ {A = ℕ} 0 1 = cc in omega arith)
+      go self f = absurd (let z : _≡_ {A = ℕ} 0 1 = cc in omega arith)
+      go (source y) f = (y, refl, cc)
+      go nothing f = absurd (let z : _≡_ {A = ℕ} 0 1 = cc in omega arith)
+
+-- an item that is an expression is a string that is read as it
+token-no-source : (t : List ℕ) (y : SourceExpression) → tokenMeaning t ≡ source y → ⊥
+unfolding tokenMeaning
+token-no-source t y = go (sameBytes t (text "*")) (sameBytes t (text "self"))
+  where
+    go : (a b : Bool) → pick a star (pick b self nothing) ≡ source y → ⊥
+    go true b e = let z : _≡_ {A = ℕ} 0 1 = unfold pick in cc in omega arith
+    go false true e = let z : _≡_ {A = ℕ} 0 1 = unfold pick in cc in omega arith
+    go false false e = let z : _≡_ {A = ℕ} 0 1 = unfold pick in cc in omega arith
+
+string-is : (x : Option SourceExpression) (y : SourceExpression) → sourceMeaning x ≡ source y → x ≡ some y
+unfolding sourceMeaning
+string-is (some z) y e = let q : z ≡ y = cc in ap some q
+string-is none y e = absurd (let z : _≡_ {A = ℕ} 0 1 = cc in omega arith)
+
+kind-source : (k : ItemKind) (t : List ℕ) (y : SourceExpression) → meaningOf (itemBy k t) ≡ source y → expressionOf t ≡ some y
+unfolding itemBy meaningOf
+kind-source kind.Token t y e = absurd (token-no-source t y e)
+kind-source kind.String t y e = string-is (expressionOf t) y e
+kind-source kind.Other t y e = absurd (let z : _≡_ {A = ℕ} 0 1 = cc in omega arith)
+
+-- whether an item admits an origin, by its meaning
+module _ (s : List ℕ) (p : ItemRange) (o : Origin) (r : ItemMeaning) (h : r ≡ meaningAs (meaningOf (itemAs s p))) where
+  pub admit-all : r ≡ meaning.All → false ≡ anyAdmits (withSource (meaningOf (itemAs s p)) []) o
+  unfolding anyAdmits withSource
+  admit-all k = rw (told-star (meaningOf (itemAs s p)) r h k)
+
+  pub admit-own : r ≡ meaning.Own → false ≡ anyAdmits (withSource (meaningOf (itemAs s p)) []) o
+  unfolding anyAdmits withSource
+  admit-own k = rw (told-self (meaningOf (itemAs s p)) r h k)
+
+  pub admit-nothing : r ≡ meaning.Nothing → false ≡ anyAdmits (withSource (meaningOf (itemAs s p)) []) o
+  unfolding anyAdmits withSource
+  admit-nothing k = rw (told-nothing (meaningOf (itemAs s p)) r h k)
+
+  pub admit-source : (e : ExpressionRange) (x : List ℕ) (b : Bool) → b ≡ admits (expressionIn x e) o → x ≡ partOf s (p .from) (p .to) → r ≡ meaning.Source e → b ≡ anyAdmits (withSource (meaningOf (itemAs s p)) []) o
+  unfolding anyAdmits withSource
+  admit-source e x b g m k =
+      let t = told-source (meaningOf (itemAs s p)) r h e k in
+      let y = t .0 in
+      let w : expressionOf x ≡ some y = rw m (kind-source (p .kind) (partOf s (p .from) (p .to)) y (unfold itemAs in (t .1))) in
+      let v : expressionIn x e ≡ y = ap (expressionIn x) (sym (t .2)) ∙ expression-range x y w in
+      rw (t .1, or-none (admits y o)) (rw v at g)
+
+-- a lone item's setting, by its meaning
+module _ (s : List ℕ) (p : ItemRange) (r : ItemMeaning) (h : r ≡ meaningAs (meaningOf (itemAs s p))) where
+  pub lone-all : r ≡ meaning.All → record { declared = true; all = true; own = false; items = cursor.Item p } ≡ loneSetting (meaningOf (itemAs s p)) (declaredBy s (cursor.Item p))
+  unfolding loneSetting itemsAt hasStar hasSelf
+  lone-all k = rw (told-star (meaningOf (itemAs s p)) r h k)
+
+  pub lone-own : r ≡ meaning.Own → record { declared = true; all = false; own = true; items = cursor.Item p } ≡ loneSetting (meaningOf (itemAs s p)) (declaredBy s (cursor.Item p))
+  unfolding loneSetting itemsAt hasStar hasSelf
+  lone-own k = rw (told-self (meaningOf (itemAs s p)) r h k)
+
+  pub lone-source : (e : ExpressionRange) → r ≡ meaning.Source e → record { declared = true; all = false; own = false; items = cursor.Item p } ≡ loneSetting (meaningOf (itemAs s p)) (declaredBy s (cursor.Item p))
+  unfolding loneSetting itemsAt hasStar hasSelf
+  lone-source e k = rw (told-source (meaningOf (itemAs s p)) r h e k .1)
+
+  pub lone-nothing : (d : Setting) → d ≡ undeclared → r ≡ meaning.Nothing → d ≡ loneSetting (meaningOf (itemAs s p)) (declaredBy s (cursor.Item p))
+  unfolding loneSetting
+  lone-nothing d g k = rw (told-nothing (meaningOf (itemAs s p)) r h k) g
+
+-- marks, by a meaning
+module _ (m : Marks) (x : Meaning) (r : ItemMeaning) (h : r ≡ meaningAs x) where
+  pub mark-all : r ≡ meaning.All → IsMarked m x (record { all = true; own = m .own })
+  mark-all k = rw (told-star x r h k) (record { all = sym (or-true (m .all)); own = sym (or-none (m .own)) })
+
+  pub mark-own : r ≡ meaning.Own → IsMarked m x (record { all = m .all; own = true })
+  mark-own k = rw (told-self x r h k) (record { all = sym (or-none (m .all)); own = sym (or-true (m .own)) })
+
+  pub mark-source : (e : ExpressionRange) → r ≡ meaning.Source e → IsMarked m x m
+  mark-source e k = rw (told-source x r h e k .1) (record { all = sym (or-none (m .all)); own = sym (or-none (m .own)) })
+
+  pub mark-nothing : r ≡ meaning.Nothing → IsMarked m x m
+  mark-nothing k = rw (told-nothing x r h k) (record { all = sym (or-none (m .all)); own = sym (or-none (m .own)) })

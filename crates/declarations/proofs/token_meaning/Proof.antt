@@ -1,0 +1,17 @@
+-- `token_meaning` is right: the two fixed texts are tested in the order of the definition.
+use Rattle.declarations.proofs.Meanings.{token-all, token-own, token-nothing}
+use borrow.Author.Needs.{needs}
+use Rattle.declarations.proofs.token_meaning.Statement.{statement}
+use Rattle.declarations.proofs.token_meaning.Tie as tie
+
+pub token-meaning-spec : {M : Type 1} → statement M
+token-meaning-spec =
+    tie.close
+    (tie.spec
+    (λ c. search needs)
+    (λ c κs. search needs)
+    (λ c. search token-all)
+    (λ c. search needs)
+    (λ c κs. search needs)
+    (λ c. search token-own)
+    (λ c. search token-nothing))

@@ -1,0 +1,5 @@
+pub mod Allowlists
+pub mod Declarations
+pub mod Settings
+pub mod Widening
+pub mod Examples
