@@ -1,6 +1,6 @@
 -- What upper layers use of dictionaries. Assumes nothing.
 use mathlib.Core.Path.{_≡_, refl, ap, _∙_, sym}
-use Prim.Native.Nat.{ℕ, zero, suc, _+_, _-_, _≤_, _<_}
+use Prim.Native.Nat.{ℕ, suc, _+_, _-_, _<_}
 use mathlib.Core.List.{List, [], _∷_, _++_}
 use mathlib.Core.Bool.{Bool, true, false}
 use mathlib.Core.Option.{Option, some, none}
@@ -8,12 +8,11 @@ use native.Mathlib.Omega.{arith}
 use lib.ListN.{length, drop}
 use Rattle.ascii.specs.Bytes.{pick}
 use Rattle.ascii.specs.Texts.{sameBytes}
-use Rattle.ascii.specs.Reading.{Step}
-use Rattle.ascii.specs.Reading.Step.{more, done, fail}
+use Rattle.ascii.specs.Reading.Step.{more}
 use Rattle.items.specs.Items.{Item}
 use Rattle.items.specs.Found.{itemAs}
 use Rattle.items.specs.declared.ItemFound.{ItemFound}
-use Rattle.dictionaries.specs.Dictionaries.{Value, Member, Plain, innerTurn, dictionary, plains, plainly, members}
+use Rattle.dictionaries.specs.Dictionaries.{Value, Member, Plain, innerTurn, dictionary, plainly, members}
 use Rattle.dictionaries.specs.Dictionaries.Value.{one, many}
 use Rattle.dictionaries.specs.Lookup.{into, later, lastValueIn, lastFound, cursorAt, onward, walk, itemsFrom, foundAs, isSome, lowNext, highNext}
 use Rattle.dictionaries.specs.Added.{OneItemMore}

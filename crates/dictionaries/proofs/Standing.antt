@@ -1,28 +1,27 @@
 -- What a member says stands at its places. Assumes nothing.
 use mathlib.Core.Path.{_≡_, refl, ap, _∙_, sym}
-use Prim.Native.Nat.{ℕ, zero, suc, _+_, _-_, _≤_, _<_}
+use Prim.Native.Nat.{ℕ, zero, suc, _+_, _-_, _<_}
 use mathlib.Core.List.{List, [], _∷_, _++_}
 use mathlib.Core.Bool.{Bool, true, false, _||_}
 use mathlib.Core.Option.{Option, some, none}
 use native.Mathlib.Omega.{arith}
-use lib.ListN.{length, drop, length-drop}
+use lib.ListN.{length, drop}
 use lib.Dec.{eqb}
 use Rattle.ascii.specs.Bytes.{pick}
 use Rattle.ascii.specs.Texts.{sameBytes}
 use Rattle.ascii.specs.Reading.{Parsed, Step, headOf, isEmpty, next, skip, past, after, mapped, going, adding, onStep, turns}
 use Rattle.ascii.specs.Reading.Parsed.{parsed, malformed}
 use Rattle.ascii.specs.Reading.Step.{more, done, fail}
-use Rattle.ascii.proofs.Suffixes.{Suffix, Ends, StepEnds, suffix-all, suffix-trans, suffix-past, suffix-drop, suffix-length, suffix-place, ends-wide, ends-turns, suffixes}
+use Rattle.ascii.proofs.Suffixes.{Suffix, Ends, StepEnds, suffix-trans, suffix-past, suffix-drop, suffix-length, suffix-place, ends-wide, ends-turns, suffixes}
 use Rattle.items.specs.Items.{Item, Parameter, isSpace, keyOf, bareOf, paramsOf, itemOf}
-use Rattle.items.specs.Items.Item.{token, string, other}
+use Rattle.items.specs.Items.Item.{other}
 use Rattle.items.specs.Found.{itemRange, itemBy, itemAs}
 use Rattle.items.specs.declared.ItemFound.{ItemFound}
 use Rattle.items.proofs.Cuts.{bare-as, item-as}
-use Rattle.items.proofs.Suffixes.{key-ends, bare-ends, params-ends, params-in, item-ends, item-shrinks}
-use Rattle.dictionaries.specs.Dictionaries.{Value, Placed, Member, Plain, isBlank, innerTurn, innerOf, closedOf, listOf, loneOf, bareKey, valueOf, assignedOf, memberOf, partedOf, dictTurn, readAll, dataOf, dictionary, plain, plains, plainly, members}
+use Rattle.items.proofs.Suffixes.{key-ends, bare-ends, params-in, item-ends, item-shrinks}
+use Rattle.dictionaries.specs.Dictionaries.{Value, Placed, Member, isBlank, innerTurn, innerOf, closedOf, listOf, loneOf, bareKey, valueOf, assignedOf, memberOf, partedOf, dictTurn, readAll, dataOf, plain, plains, plainly, members}
 use Rattle.dictionaries.specs.Dictionaries.Value.{one, many}
 use Rattle.dictionaries.specs.Lookup.{into, latest, lastIn, later, lastValueIn, valueAt, placedAt, answerOf, lastFound, pointedAt, cursorAt, onward, walk, itemsFrom, foundAs}
-use Rattle.dictionaries.specs.declared.ListItem.{ListItem}
 use Rattle.dictionaries.specs.declared.ListItem.the-variants as list
 
 -- each reader leaves an end of its text
