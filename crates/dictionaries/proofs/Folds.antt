@@ -8,11 +8,12 @@ use lib.ListN.{length, drop, length-drop}
 use Rattle.ascii.specs.Reading.{Parsed, Step, adding, onStep, turns, turnsOf}
 use Rattle.ascii.specs.Reading.Parsed.{parsed, malformed}
 use Rattle.ascii.specs.Reading.Step.{more, done, fail}
-use Rattle.ascii.specs.Places.{wentOf, wentAt, Went, lowMore}
+use Rattle.ascii.specs.Places.{wentOf, wentAt, lowMore}
 use Rattle.ascii.specs.Places.Went.{goes, ends, fails}
 use Rattle.ascii.specs.declared.Turn.{Turn}
 use Rattle.ascii.specs.declared.Turn.the-variants as turn
-use Rattle.dictionaries.specs.Lookup.{into, foldParsed}
+use Rattle.dictionaries.specs.Lookup.{into}
+use Rattle.dictionaries.specs.Steps.{foldParsed}
 
 module _ {A B : Type 0} (k : B → A → B) where
   pub into-append : (b : B) (xs ys : List A) → into k b (xs ++ ys) ≡ into k (into k b xs) ys

@@ -1,16 +1,15 @@
 -- Examples of headers with one item more, and of headers that are not so related, by computation. Assumes nothing.
-use Prim.Native.Nat.{ℕ, suc}
-use mathlib.Core.Path.{_≡_, refl, sym}
-use mathlib.Core.List.{List, [], _∷_, _++_}
-use mathlib.Core.Option.{Option, some, none}
+use Prim.Native.Nat.{ℕ}
+use mathlib.Core.Path.{_≡_, refl}
+use mathlib.Core.List.{List, [], _∷_}
+use mathlib.Core.Option.{some, none}
 use native.Mathlib.Omega.{arith}
-use lib.ListN.{length}
 use Rattle.ascii.specs.Bytes.{pick}
 use Rattle.ascii.specs.Reading.{headOf, headIs, isEmpty, next, skip, letLen, runOf, past, after, mapped, going, adding, onStep, turns}
-use Rattle.items.specs.Items.{Item, keyOf, tokenOf, booleanOf, bytesOf, fractionOf, unsignedOf, numberOf, stringTurn, stringOf, bareOf, paramOf, paramTurn, paramsOf, itemOf}
+use Rattle.items.specs.Items.{keyOf, tokenOf, booleanOf, bytesOf, fractionOf, unsignedOf, numberOf, stringTurn, stringOf, bareOf, paramOf, paramTurn, paramsOf, itemOf}
 use Rattle.items.specs.Items.Item.{token, string, other}
-use Rattle.dictionaries.specs.Dictionaries.{Value, Plain, members, innerTurn, innerOf, closedOf, listOf, loneOf, bareKey, valueOf, assignedOf, memberOf, partedOf, dictTurn, readAll, dataOf, plains, plainly}
-use Rattle.dictionaries.specs.Dictionaries.Value.{one, many}
+use Rattle.dictionaries.specs.Dictionaries.{innerTurn, innerOf, closedOf, listOf, loneOf, bareKey, valueOf, assignedOf, memberOf, partedOf, dictTurn, readAll, dataOf, plains, plainly}
+use Rattle.dictionaries.specs.Dictionaries.Value.{one}
 use Rattle.dictionaries.specs.Added.{OneItemMore}
 use Rattle.dictionaries.proofs.Tallies.{keysOf, keysIn, itemCount, itemsOf, itemsIn, added-keys, added-items}
 

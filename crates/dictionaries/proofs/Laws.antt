@@ -1,6 +1,6 @@
 -- What upper layers use of dictionaries. Assumes nothing.
 use mathlib.Core.Path.{_≡_, refl, ap, _∙_, sym}
-use Prim.Native.Nat.{ℕ, zero, suc, _+_, _-_, _≤_, _<_}
+use Prim.Native.Nat.{ℕ, suc, _+_, _-_, _<_}
 use mathlib.Core.List.{List, [], _∷_, _++_}
 use mathlib.Core.Bool.{Bool, true, false}
 use mathlib.Core.Option.{Option, some, none}
@@ -8,12 +8,12 @@ use native.Mathlib.Omega.{arith}
 use lib.ListN.{length, drop}
 use Rattle.ascii.specs.Bytes.{pick}
 use Rattle.ascii.specs.Texts.{sameBytes}
-use Rattle.ascii.specs.Reading.{Step}
-use Rattle.ascii.specs.Reading.Step.{more, done, fail}
-use Rattle.items.specs.Items.{Item}
+use Rattle.ascii.specs.Reading.Step.{more}
+use Rattle.ascii.specs.Places.{restOf}
+use Rattle.items.specs.Items.{Item, paramsOf}
 use Rattle.items.specs.Found.{itemAs}
 use Rattle.items.specs.declared.ItemFound.{ItemFound}
-use Rattle.dictionaries.specs.Dictionaries.{Value, Member, Plain, innerTurn, dictionary, plains, plainly, members}
+use Rattle.dictionaries.specs.Dictionaries.{Value, Member, Plain, innerTurn, dictionary, plainly, members}
 use Rattle.dictionaries.specs.Dictionaries.Value.{one, many}
 use Rattle.dictionaries.specs.Lookup.{into, later, lastValueIn, lastFound, cursorAt, onward, walk, itemsFrom, foundAs, isSome, lowNext, highNext}
 use Rattle.dictionaries.specs.Added.{OneItemMore}
@@ -24,7 +24,7 @@ use Rattle.dictionaries.specs.declared.MemberFound.the-variants as found
 use Rattle.dictionaries.specs.declared.ListItem.{ListItem}
 use Rattle.dictionaries.specs.declared.ListItem.the-variants as list
 use Rattle.dictionaries.proofs.Folds.{into-append}
-use Rattle.dictionaries.proofs.Standing.{walk-enough, inner-shrinks, cursor-step, cursor-stop, found-last}
+use Rattle.dictionaries.proofs.Standing.{walk-enough, inner-shrinks, cursor-step, cursor-stop, found-last, found-params}
 
 -- a text is a dictionary exactly if it has members as data
 pub dictionary-members : (s : List ℕ) → isSome (dictionary s) ≡ isSome (members s)
@@ -54,6 +54,13 @@ module _ (s key : List ℕ) (r : MemberFound) (is : r ≡ lastFound s key) where
   pub last-list : (m : MemberList) → r ≡ found.List m → lastValueIn key (members s) ≡ some (some (many (itemsFrom s (m .first))))
   unfolding foundAs
   last-list m e = rw e at (sym last-member)
+
+-- the parameters of the last member: from the start of the range that `member` answers, they are read up to its end
+pub item-params : (s key : List ℕ) (r : MemberFound) (m : MemberItem) → r ≡ lastFound s key → r ≡ found.Item m → restOf (paramsOf (drop (m .params .from) s)) ≡ some (drop (m .params .to) s)
+item-params s key r m is e = rw (sym is ∙ e) at (found-params s key)
+
+pub list-params : (s key : List ℕ) (r : MemberFound) (m : MemberList) → r ≡ lastFound s key → r ≡ found.List m → restOf (paramsOf (drop (m .params .from) s)) ≡ some (drop (m .params .to) s)
+list-params s key r m is e = rw (sym is ∙ e) at (found-params s key)
 
 -- the items of a list in order, by the cursor: what `item_at` answers is the first item from there on, and the next cursor has the others
 module _ (s : List ℕ) (c : ℕ) (r : ListItem) (is : r ≡ cursorAt s c) where

@@ -1,7 +1,7 @@
 -- Members and the last one of a key. Assumes nothing.
 use mathlib.Core.Path.{_≡_, refl, ap, _∙_, sym}
-use Prim.Native.Nat.{ℕ, zero, suc, _+_, _-_, _≤_, _<_}
-use mathlib.Core.List.{List, [], _∷_, _++_}
+use Prim.Native.Nat.{ℕ, _+_, _-_, _≤_, _<_}
+use mathlib.Core.List.{List, [], _∷_}
 use mathlib.Core.Option.{Option, some, none}
 use mathlib.Core.Bool.{Bool, true, false}
 use native.Mathlib.Omega.{arith}
@@ -9,10 +9,10 @@ use lib.ListN.{length, drop, length-drop, length-append}
 use lib.Dec.{eqb}
 use Rattle.ascii.specs.Bytes.{pick}
 use Rattle.ascii.specs.Texts.{partOf, sameBytes}
-use Rattle.ascii.specs.Reading.{Parsed, Step, headOf, isEmpty, past, skip, next, after, mapped, going, turnsOf}
+use Rattle.ascii.specs.Reading.{Parsed, headOf, isEmpty, past, skip, next, after, mapped, going, turnsOf}
 use Rattle.ascii.specs.Reading.Parsed.{parsed, malformed}
 use Rattle.ascii.specs.Reading.Step.{more, done, fail}
-use Rattle.ascii.specs.Places.{restOf, leftAt, low, high, wentOf, wentAt, Went, lowMore, lowDone}
+use Rattle.ascii.specs.Places.{restOf, leftAt, low, high, wentOf, wentAt, lowMore, lowDone}
 use Rattle.ascii.specs.declared.Read.{Read}
 use Rattle.ascii.specs.declared.Read.the-variants as read
 use Rattle.ascii.specs.declared.Turn.{Turn}
@@ -22,12 +22,13 @@ use Rattle.items.specs.Items.{isSpace, keyOf}
 use Rattle.items.proofs.Cuts.{Took, key-took, left-at, left-none, part-took}
 use Rattle.dictionaries.specs.Dictionaries.{Value, Placed, Member, isBlank, assignedOf, memberOf, partedOf, partedBy, dictTurn, readAll, dataOf, dictionary}
 use Rattle.dictionaries.specs.Dictionaries.Value.{one, many}
-use Rattle.dictionaries.specs.Lookup.{into, latest, lastIn, newest, oneOf, foldParsed, answerOf, answered, lastFound, valueAt, placedAt, valueFound, memberValue, KeyIs, endOf, isSome}
+use Rattle.dictionaries.specs.Lookup.{into, latest, lastIn, answerOf, lastFound, valueAt, placedAt, isSome}
+use Rattle.dictionaries.specs.Steps.{newest, oneOf, foldParsed, answered, valueFound, memberValue, KeyIs, endOf}
 use Rattle.dictionaries.specs.declared.MemberFound.{MemberFound}
 use Rattle.dictionaries.specs.declared.MemberFound.the-variants as found
 use Rattle.dictionaries.specs.declared.MemberItem.{MemberItem}
 use Rattle.dictionaries.specs.declared.MemberList.{MemberList}
-use Rattle.dictionaries.proofs.Folds.{Adds, folded-done, folded-fail}
+use Rattle.dictionaries.proofs.Folds.{Adds}
 use Rattle.dictionaries.proofs.Values.{left-parsed, left-not, none-parsed, parted-any}
 
 -- a member: its key, and the value past it

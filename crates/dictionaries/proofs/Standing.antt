@@ -1,28 +1,30 @@
 -- What a member says stands at its places. Assumes nothing.
 use mathlib.Core.Path.{_≡_, refl, ap, _∙_, sym}
-use Prim.Native.Nat.{ℕ, zero, suc, _+_, _-_, _≤_, _<_}
+use Prim.Native.Nat.{ℕ, zero, suc, _+_, _-_, _<_}
 use mathlib.Core.List.{List, [], _∷_, _++_}
 use mathlib.Core.Bool.{Bool, true, false, _||_}
 use mathlib.Core.Option.{Option, some, none}
 use native.Mathlib.Omega.{arith}
-use lib.ListN.{length, drop, length-drop}
+use lib.ListN.{length, drop}
 use lib.Dec.{eqb}
 use Rattle.ascii.specs.Bytes.{pick}
 use Rattle.ascii.specs.Texts.{sameBytes}
 use Rattle.ascii.specs.Reading.{Parsed, Step, headOf, isEmpty, next, skip, past, after, mapped, going, adding, onStep, turns}
 use Rattle.ascii.specs.Reading.Parsed.{parsed, malformed}
 use Rattle.ascii.specs.Reading.Step.{more, done, fail}
-use Rattle.ascii.proofs.Suffixes.{Suffix, Ends, StepEnds, suffix-all, suffix-trans, suffix-past, suffix-drop, suffix-length, suffix-place, ends-wide, ends-turns, suffixes}
+use Rattle.ascii.specs.Places.{restOf}
+use Rattle.ascii.proofs.Suffixes.{Suffix, Ends, StepEnds, suffix-trans, suffix-past, suffix-drop, suffix-length, suffix-place, ends-wide, ends-turns, suffixes}
 use Rattle.items.specs.Items.{Item, Parameter, isSpace, keyOf, bareOf, paramsOf, itemOf}
-use Rattle.items.specs.Items.Item.{token, string, other}
+use Rattle.items.specs.Items.Item.{other}
 use Rattle.items.specs.Found.{itemRange, itemBy, itemAs}
 use Rattle.items.specs.declared.ItemFound.{ItemFound}
 use Rattle.items.proofs.Cuts.{bare-as, item-as}
 use Rattle.items.proofs.Suffixes.{key-ends, bare-ends, params-ends, params-in, item-ends, item-shrinks}
-use Rattle.dictionaries.specs.Dictionaries.{Value, Placed, Member, Plain, isBlank, innerTurn, innerOf, closedOf, listOf, loneOf, bareKey, valueOf, assignedOf, memberOf, partedOf, dictTurn, readAll, dataOf, dictionary, plain, plains, plainly, members}
+use Rattle.dictionaries.specs.Dictionaries.{Value, Placed, Member, isBlank, innerTurn, innerOf, closedOf, listOf, loneOf, bareKey, valueOf, assignedOf, memberOf, partedOf, dictTurn, readAll, dataOf, plain, plains, plainly, members}
 use Rattle.dictionaries.specs.Dictionaries.Value.{one, many}
 use Rattle.dictionaries.specs.Lookup.{into, latest, lastIn, later, lastValueIn, valueAt, placedAt, answerOf, lastFound, pointedAt, cursorAt, onward, walk, itemsFrom, foundAs}
-use Rattle.dictionaries.specs.declared.ListItem.{ListItem}
+use Rattle.dictionaries.specs.declared.MemberFound.{MemberFound}
+use Rattle.dictionaries.specs.declared.MemberFound.the-variants as found
 use Rattle.dictionaries.specs.declared.ListItem.the-variants as list
 
 -- each reader leaves an end of its text
@@ -141,12 +143,16 @@ abbrev Stands : List ℕ → Value → ℕ → Type 0
 Stands s (one x) k = itemAs s (itemRange (length s - k) x) ≡ x
 Stands s (many xs) k = itemsFrom s (length s - k) ≡ xs
 
-abbrev pub Says : List ℕ → Placed → Type 0
-Says s p = foundAs s (placedAt s p) ≡ some (some (p .value))
+-- and so do its parameters
+abbrev pub Closes : List ℕ → Placed → Type 0
+Closes s p = restOf (paramsOf (drop (length s - p .params) s)) ≡ some (drop (length s - p .end) s)
 
-says : (s : List ℕ) (p : Placed) → Stands s (p .value) (p .start) → Says s p
+abbrev pub Says : List ℕ → Placed → Type 0
+Says s p = (foundAs s (placedAt s p) ≡ some (some (p .value))) × Closes s p
+
+says : (s : List ℕ) (p : Placed) → Stands s (p .value) (p .start) → Closes s p → Says s p
 unfolding placedAt
-says s p h = go (p .value) h
+says s p h c = (go (p .value) h, c)
   where
     go : (v : Value) → Stands s v (p .start) → foundAs s (valueAt s p v) ≡ some (some v)
     go = unfold foundAs valueAt in (elim [ one x ↦ λ e. ap (λ (z : Item). some (some (one z))) e | many xs ↦ λ e. ap (λ (z : List Item). some (some (many z))) e ])
@@ -164,36 +170,39 @@ module _ (s : List ℕ) where
   good-pick true x y h k = h
   good-pick false x y h k = k
 
-  closed-good : (v : Value) (l m : List ℕ) → Stands s v (length l) → Good s (closedOf v l m)
+  closed-good : (v : Value) (l m : List ℕ) → Suffix m s → Stands s v (length l) → Good s (closedOf v l m)
   unfolding closedOf
-  closed-good v l m h = go (paramsOf m)
+  closed-good v l m k h = go (paramsOf m) refl
     where
-      go : (g : Parsed (List Parameter)) → Good s (after g (λ p n. parsed (record { value = v; start = length l; params = length m; end = length n }) n))
-      go = unfold after in (elim [ parsed ps n ↦ record { good = λ p o e. let w : record { value = v; start = length l; params = length m; end = length n } ≡ p = cc in rw (← w) (says s (record { value = v; start = length l; params = length m; end = length n }) h) } | malformed ↦ good-malformed ])
+      closes : (ps : List Parameter) (n : List ℕ) → paramsOf m ≡ parsed ps n → restOf (paramsOf (drop (length s - length m) s)) ≡ some (drop (length s - length n) s)
+      closes ps n e = unfold restOf in (rw (suffix-place k, e, suffix-place (suffix-trans k (params-ends m .ends ps n e))) refl)
+
+      go : (g : Parsed (List Parameter)) → paramsOf m ≡ g → Good s (after g (λ p n. parsed (record { value = v; start = length l; params = length m; end = length n }) n))
+      go = unfold after in (elim [ parsed ps n ↦ λ a. record { good = λ p o e. let w : record { value = v; start = length l; params = length m; end = length n } ≡ p = cc in rw (← w) (says s (record { value = v; start = length l; params = length m; end = length n }) h (closes ps n a)) } | malformed ↦ λ a. good-malformed ])
 
   lone-good : (l : List ℕ) → Suffix l s → Good s (loneOf l)
   unfolding loneOf
   lone-good l h = go (bareOf l) refl
     where
       go : (g : Parsed Item) → bareOf l ≡ g → Good s (after g (λ x m. closedOf (one x) l m))
-      go = unfold after in (elim [ parsed x m ↦ λ e. closed-good (one x) l m (bare-as s (length s - length l) x m (omega arith) (ap bareOf (suffix-place h) ∙ e)) | malformed ↦ λ e. good-malformed ])
+      go = unfold after in (elim [ parsed x m ↦ λ e. closed-good (one x) l m (suffix-trans h (bare-ends l .ends x m e)) (bare-as s (length s - length l) x m (omega arith) (ap bareOf (suffix-place h) ∙ e)) | malformed ↦ λ e. good-malformed ])
 
   list-good : (l : List ℕ) → Suffix l s → Good s (listOf l)
   unfolding listOf innerOf
   list-good l h = go (turns innerTurn (suc (length l)) l) refl
     where
       go : (g : Parsed (List Item)) → turns innerTurn (suc (length l)) l ≡ g → Good s (after g (λ xs m. closedOf (many xs) l m))
-      go = unfold after in (elim [ parsed xs m ↦ λ e. closed-good (many xs) l m (rw (suffix-place h) (walk-turns (suc (length l)) l xs m e)) | malformed ↦ λ e. good-malformed ])
+      go = unfold after in (elim [ parsed xs m ↦ λ e. closed-good (many xs) l m (suffix-trans h (ends-turns innerTurn inner-turn-ends (suc (length l)) l .ends xs m e)) (rw (suffix-place h) (walk-turns (suc (length l)) l xs m e)) | malformed ↦ λ e. good-malformed ])
 
-  key-good : (l : List ℕ) → Good s (bareKey l)
+  key-good : (l : List ℕ) → Suffix l s → Good s (bareKey l)
   unfolding bareKey
-  key-good l = closed-good (one other) l l (unfold itemAs itemRange itemBy in refl)
+  key-good l h = closed-good (one other) l l h (unfold itemAs itemRange itemBy in refl)
 
   assigned-good : (l : List ℕ) → Suffix l s → Good s (assignedOf l)
   unfolding assignedOf valueOf next
   assigned-good l h =
       let k : Suffix (drop 1 l) s = suffix-trans h (suffix-drop 1 l) in
-      good-pick (eqb (headOf l) 61) _ _ (good-pick (eqb (headOf (drop 1 l)) 40) _ _ (list-good (drop 1 (drop 1 l)) (suffix-trans k (suffix-drop 1 (drop 1 l)))) (lone-good (drop 1 l) k)) (key-good l)
+      good-pick (eqb (headOf l) 61) _ _ (good-pick (eqb (headOf (drop 1 l)) 40) _ _ (list-good (drop 1 (drop 1 l)) (suffix-trans k (suffix-drop 1 (drop 1 l)))) (lone-good (drop 1 l) k)) (key-good l h)
 
   pub member-says : (l : List ℕ) → Suffix l s → (m : Member) (n : List ℕ) → memberOf l ≡ parsed m n → Says s (m .placed)
   unfolding memberOf
@@ -204,6 +213,13 @@ module _ (s : List ℕ) where
 
       go : (g : Parsed (List ℕ)) → keyOf l ≡ g → after g (λ k o. mapped (λ v. record { key = k; placed = v }) (assignedOf o)) ≡ parsed m n → Says s (m .placed)
       go = unfold after in (elim [ parsed k o ↦ λ a u. named k (assignedOf o) (assigned-good o (suffix-trans h (key-ends l .ends k o a))) u | malformed ↦ λ a u. absurd (let z : _≡_ {A = ℕ} 0 1 = cc in omega arith) ])
+
+-- from where an answer says that a member's parameters start, they are read up to where it says that they end
+abbrev pub ParamsStand : List ℕ → MemberFound → Type 0
+ParamsStand s (found.Item m) = restOf (paramsOf (drop (m .params .from) s)) ≡ some (drop (m .params .to) s)
+ParamsStand s (found.List m) = restOf (paramsOf (drop (m .params .from) s)) ≡ some (drop (m .params .to) s)
+ParamsStand s found.Absent = Unit {0}
+ParamsStand s found.NotADictionary = Unit {0}
 
 -- all members of a list say what stands there
 abbrev pub AllSay : List ℕ → List Member → Type 0
@@ -264,10 +280,28 @@ module _ (s : List ℕ) where
     last-says (m ∷ ms) a b v h = last-says ms (a .1) (latest key b m) (later key v (plain m)) (go (sameBytes (m .key) key))
       where
         go : (t : Bool) → Same (pick t (some m) b) (pick t (some (m .placed .value)) v)
-        go = unfold pick answerOf in (elim [ true ↦ a .0 | false ↦ h ])
+        go = unfold pick answerOf in (elim [ true ↦ a .0 .0 | false ↦ h ])
 
     pub found-last : foundAs s (lastFound s key) ≡ lastValueIn key (members s)
     found-last = go (readAll s) read-says
       where
         go : (g : Parsed (List Member)) → ParsedSays g → foundAs s (answerOf s (lastIn key (dataOf g))) ≡ lastValueIn key (plainly (dataOf g))
         go = unfold dataOf lastIn plainly lastValueIn foundAs answerOf in (elim [ parsed ms l ↦ λ a. last-says ms a none none refl | malformed ↦ λ a. refl ])
+
+    -- the parameters of the last member stand where the answer says
+    params-say : (ms : List Member) → AllSay s ms → (b : Option Member) → ParamsStand s (answerOf s (some b)) → ParamsStand s (answerOf s (some (into (latest key) b ms)))
+    unfolding into latest
+    params-say [] a b h = h
+    params-say (m ∷ ms) a b h = params-say ms (a .1) (latest key b m) (go (sameBytes (m .key) key))
+      where
+        placed : (p : Placed) (v : Value) → Closes s p → ParamsStand s (valueAt s p v)
+        placed = unfold valueAt in (λ p. elim [ one x ↦ λ c. c | many xs ↦ λ c. c ])
+
+        go : (t : Bool) → ParamsStand s (answerOf s (some (pick t (some m) b)))
+        go = unfold pick answerOf placedAt in (elim [ true ↦ placed (m .placed) (m .placed .value) (a .0 .1) | false ↦ h ])
+
+    pub found-params : ParamsStand s (lastFound s key)
+    found-params = go (readAll s) read-says
+      where
+        go : (g : Parsed (List Member)) → ParsedSays g → ParamsStand s (answerOf s (lastIn key (dataOf g)))
+        go = unfold dataOf lastIn answerOf in (elim [ parsed ms l ↦ λ a. params-say ms a none tt | malformed ↦ λ a. tt ])

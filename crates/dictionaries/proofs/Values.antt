@@ -1,40 +1,38 @@
 -- Values and members by their places. Assumes nothing.
 use mathlib.Core.Path.{_≡_, refl, ap, _∙_, sym}
-use Prim.Native.Nat.{ℕ, zero, suc, _+_, _-_, _≤_, _<_, min}
-use mathlib.Core.List.{List, [], _∷_, _++_}
-use mathlib.Core.Option.{Option, some, none}
+use Prim.Native.Nat.{ℕ, _+_, _-_, _≤_, _<_, min}
+use mathlib.Core.List.{List, [], _∷_}
 use mathlib.Core.Bool.{Bool, true, false, _||_}
 use native.Mathlib.Omega.{arith}
-use lib.ListN.{length, take, drop, length-drop, length-append}
-use lib.Seq.{drop-drop, take-at}
+use lib.ListN.{length, drop, length-drop}
+use lib.Seq.{drop-drop}
 use lib.Dec.{eqb}
 use borrow.Author.Tests.{eq-eqb, ne-eqb}
 use Rattle.ascii.specs.Bytes.{pick}
-use Rattle.ascii.specs.Texts.{partOf, sameBytes}
-use Rattle.ascii.specs.Reading.{Parsed, Step, headOf, isEmpty, past, skip, next, after, mapped, going}
+use Rattle.ascii.specs.Reading.{Parsed, headOf, isEmpty, past, skip, next, after}
 use Rattle.ascii.specs.Reading.Parsed.{parsed, malformed}
 use Rattle.ascii.specs.Reading.Step.{more, done, fail}
 use Rattle.ascii.specs.Places.{restOf, leftAt, low, high, wentOf, Went}
 use Rattle.ascii.specs.declared.Read.{Read}
 use Rattle.ascii.specs.declared.Read.the-variants as read
 use Rattle.ascii.proofs.Reading.{empty-yes, empty-no}
-use Rattle.items.specs.Items.{Item, Parameter, isSpace, keyOf, bareOf, paramsOf, itemOf}
-use Rattle.items.specs.Items.Item.{token, string, other}
+use Rattle.items.specs.Items.{Item, Parameter, isSpace, bareOf, paramsOf, itemOf}
+use Rattle.items.specs.Items.Item.{other}
 use Rattle.items.specs.Found.{itemRange, itemFound}
 use Rattle.items.specs.Found as f
 use Rattle.items.specs.declared.ItemKind.the-variants as kind
 use Rattle.items.specs.declared.ItemFound.{ItemFound}
 use Rattle.items.specs.declared.ItemRead.{ItemRead}
 use Rattle.items.specs.declared.ItemRead.the-variants as item
-use Rattle.items.proofs.Cuts.{Took, key-took, left-at, left-none, place-left, part-took, past-item}
-use Rattle.dictionaries.specs.Dictionaries.{Value, Placed, Member, isBlank, innerOf, closedOf, listOf, loneOf, bareKey, valueOf, assignedOf, memberOf, partedOf}
+use Rattle.items.proofs.Cuts.{left-at, left-none, past-item}
+use Rattle.dictionaries.specs.Dictionaries.{Value, Placed, isBlank, innerOf, closedOf, listOf, loneOf, bareKey, partedOf}
 use Rattle.dictionaries.specs.Dictionaries.Value.{one, many}
-use Rattle.dictionaries.specs.Lookup.{into, newest, oneOf, valueAt, placedAt, valueFound, memberValue, KeyIs, endOf, pointedAt, cursorAt}
+use Rattle.dictionaries.specs.Lookup.{valueAt, placedAt, pointedAt, cursorAt}
+use Rattle.dictionaries.specs.Steps.{valueFound, endOf}
 use Rattle.dictionaries.specs.declared.MemberItem.{MemberItem}
 use Rattle.dictionaries.specs.declared.MemberList.{MemberList}
 use Rattle.dictionaries.specs.declared.MemberFound.{MemberFound}
 use Rattle.dictionaries.specs.declared.MemberFound.the-variants as found
-use Rattle.dictionaries.specs.declared.ListItem.{ListItem}
 use Rattle.dictionaries.specs.declared.ListItem.the-variants as list
 
 -- what is left of a reading at a place, taken apart

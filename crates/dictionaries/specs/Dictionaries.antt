@@ -1,7 +1,7 @@
 -- RFC 8941 section 4.2: inner lists, members and dictionaries, read from the front of a text.
 use Prim.Native.Nat.{ℕ}
 use mathlib.Core.List.{List, [], _∷_}
-use mathlib.Core.Bool.{Bool, true, false, _||_}
+use mathlib.Core.Bool.{Bool, _||_}
 use mathlib.Core.Option.{Option, some, none}
 use lib.ListN.{length}
 use lib.Dec.{eqb}
@@ -10,7 +10,7 @@ use Rattle.ascii.specs.Reading.{Parsed, Step, headOf, isEmpty, next, skip, afte
 use Rattle.ascii.specs.Reading.Parsed.{parsed, malformed}
 use Rattle.ascii.specs.Reading.Step.{more, done, fail}
 use Rattle.items.specs.Items.{Item, isSpace, keyOf, bareOf, paramsOf, itemOf}
-use Rattle.items.specs.Items.Item.{token, string, other}
+use Rattle.items.specs.Items.Item.{other}
 
 -- a member's value: an item, or an inner list of items
 pub data Value : Type 0 where

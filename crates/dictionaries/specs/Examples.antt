@@ -7,8 +7,14 @@ use Rattle.ascii.specs.Bytes.{pick}
 use Rattle.ascii.specs.Reading.{headOf, headIs, isEmpty, next, skip, letLen, runOf, past, after, mapped, going, adding, onStep, turns}
 use Rattle.items.specs.Items.{Item, keyOf, tokenOf, booleanOf, bytesOf, fractionOf, unsignedOf, numberOf, stringTurn, stringOf, bareOf, paramOf, paramTurn, paramsOf, itemOf}
 use Rattle.items.specs.Items.Item.{token, string, other}
-use Rattle.dictionaries.specs.Dictionaries.{Value, Member, dictionary, innerTurn, innerOf, closedOf, listOf, loneOf, bareKey, valueOf, assignedOf, memberOf, partedOf, dictTurn, readAll, dataOf}
+use Rattle.dictionaries.specs.Dictionaries.{Member, dictionary, innerTurn, innerOf, closedOf, listOf, loneOf, bareKey, valueOf, assignedOf, memberOf, partedOf, dictTurn, readAll, dataOf}
 use Rattle.dictionaries.specs.Dictionaries.Value.{one, many}
+use Rattle.ascii.specs.Texts.{sameBy}
+use Rattle.items.specs.Found.{itemRange}
+use Rattle.items.specs.declared.ItemKind.the-variants as kind
+use Rattle.dictionaries.specs.Lookup.{into, latest, lastIn, valueAt, placedAt, answerOf, lastFound, pointedAt, cursorAt}
+use Rattle.dictionaries.specs.declared.MemberFound.the-variants as found
+use Rattle.dictionaries.specs.declared.ListItem.the-variants as list
 
 -- how many members a text has, and one more; 0 where it is not a dictionary
 unfoldable counted : List Member → ℕ
@@ -233,3 +239,48 @@ example-42 = refl
 example-43 : dictionary (97 ∷ 61 ∷ 40 ∷ 98 ∷ 32 ∷ 34 ∷ 99 ∷ 34 ∷ 41 ∷ 59 ∷ 100 ∷ 44 ∷ 32 ∷ 101 ∷ []) ≡ some (record { key = 97 ∷ []; placed = record { value = many (token (98 ∷ []) ∷ string (99 ∷ []) ∷ []); start = 11; params = 5; end = 3 } } ∷ record { key = 101 ∷ []; placed = record { value = one other; start = 0; params = 0; end = 0 } } ∷ [])
 unfolding pick headOf headIs isEmpty next skip letLen runOf past after mapped going adding onStep turns keyOf tokenOf booleanOf bytesOf fractionOf unsignedOf numberOf stringTurn stringOf bareOf paramOf paramTurn paramsOf itemOf innerTurn innerOf closedOf listOf loneOf bareKey valueOf assignedOf memberOf partedOf dictTurn readAll dataOf counted members
 example-43 = refl
+
+-- the last of a repeated key, in `a=(b "c");d, e, a`
+example-44 : lastFound (97 ∷ 61 ∷ 40 ∷ 98 ∷ 32 ∷ 34 ∷ 99 ∷ 34 ∷ 41 ∷ 59 ∷ 100 ∷ 44 ∷ 32 ∷ 101 ∷ 44 ∷ 32 ∷ 97 ∷ []) (97 ∷ []) ≡ found.Item (record { item = record { kind = kind.Other; from = 17; to = 17 }; params = record { from = 17; to = 17 } })
+unfolding pick headOf headIs isEmpty next skip letLen runOf past after mapped going adding onStep turns keyOf tokenOf booleanOf bytesOf fractionOf unsignedOf numberOf stringTurn stringOf bareOf paramOf paramTurn paramsOf itemOf innerTurn innerOf closedOf listOf loneOf bareKey valueOf assignedOf memberOf partedOf dictTurn readAll dataOf sameBy itemRange into latest lastIn valueAt placedAt answerOf pointedAt cursorAt
+example-44 = refl
+
+-- a list and its parameters, in `a=(b "c" );d, e`
+example-45 : lastFound (97 ∷ 61 ∷ 40 ∷ 98 ∷ 32 ∷ 34 ∷ 99 ∷ 34 ∷ 32 ∷ 41 ∷ 59 ∷ 100 ∷ 44 ∷ 32 ∷ 101 ∷ []) (97 ∷ []) ≡ found.List (record { first = 3; params = record { from = 10; to = 12 } })
+unfolding pick headOf headIs isEmpty next skip letLen runOf past after mapped going adding onStep turns keyOf tokenOf booleanOf bytesOf fractionOf unsignedOf numberOf stringTurn stringOf bareOf paramOf paramTurn paramsOf itemOf innerTurn innerOf closedOf listOf loneOf bareKey valueOf assignedOf memberOf partedOf dictTurn readAll dataOf sameBy itemRange into latest lastIn valueAt placedAt answerOf pointedAt cursorAt
+example-45 = refl
+
+-- no such member
+example-46 : lastFound (97 ∷ 61 ∷ 40 ∷ 98 ∷ 32 ∷ 34 ∷ 99 ∷ 34 ∷ 32 ∷ 41 ∷ 59 ∷ 100 ∷ 44 ∷ 32 ∷ 101 ∷ []) (99 ∷ []) ≡ found.Absent
+unfolding pick headOf headIs isEmpty next skip letLen runOf past after mapped going adding onStep turns keyOf tokenOf booleanOf bytesOf fractionOf unsignedOf numberOf stringTurn stringOf bareOf paramOf paramTurn paramsOf itemOf innerTurn innerOf closedOf listOf loneOf bareKey valueOf assignedOf memberOf partedOf dictTurn readAll dataOf sameBy itemRange into latest lastIn valueAt placedAt answerOf pointedAt cursorAt
+example-46 = refl
+
+-- no dictionary
+example-47 : lastFound (97 ∷ 44 ∷ []) (97 ∷ []) ≡ found.NotADictionary
+unfolding pick headOf headIs isEmpty next skip letLen runOf past after mapped going adding onStep turns keyOf tokenOf booleanOf bytesOf fractionOf unsignedOf numberOf stringTurn stringOf bareOf paramOf paramTurn paramsOf itemOf innerTurn innerOf closedOf listOf loneOf bareKey valueOf assignedOf memberOf partedOf dictTurn readAll dataOf sameBy itemRange into latest lastIn valueAt placedAt answerOf pointedAt cursorAt
+example-47 = refl
+
+-- an item and its parameters, in `x, a=tok;p`
+example-48 : lastFound (120 ∷ 44 ∷ 32 ∷ 97 ∷ 61 ∷ 116 ∷ 111 ∷ 107 ∷ 59 ∷ 112 ∷ []) (97 ∷ []) ≡ found.Item (record { item = record { kind = kind.Token; from = 5; to = 8 }; params = record { from = 8; to = 10 } })
+unfolding pick headOf headIs isEmpty next skip letLen runOf past after mapped going adding onStep turns keyOf tokenOf booleanOf bytesOf fractionOf unsignedOf numberOf stringTurn stringOf bareOf paramOf paramTurn paramsOf itemOf innerTurn innerOf closedOf listOf loneOf bareKey valueOf assignedOf memberOf partedOf dictTurn readAll dataOf sameBy itemRange into latest lastIn valueAt placedAt answerOf pointedAt cursorAt
+example-48 = refl
+
+-- the items of `a=(b "c" );d, e` in order
+example-49 : cursorAt (97 ∷ 61 ∷ 40 ∷ 98 ∷ 32 ∷ 34 ∷ 99 ∷ 34 ∷ 32 ∷ 41 ∷ 59 ∷ 100 ∷ 44 ∷ 32 ∷ 101 ∷ []) 3 ≡ list.Item (record { range = record { kind = kind.Token; from = 3; to = 4 }; next = 4 })
+unfolding pick headOf headIs isEmpty next skip letLen runOf past after mapped going adding onStep turns keyOf tokenOf booleanOf bytesOf fractionOf unsignedOf numberOf stringTurn stringOf bareOf paramOf paramTurn paramsOf itemOf innerTurn innerOf closedOf listOf loneOf bareKey valueOf assignedOf memberOf partedOf dictTurn readAll dataOf sameBy itemRange into latest lastIn valueAt placedAt answerOf pointedAt cursorAt
+example-49 = refl
+
+-- the second
+example-50 : cursorAt (97 ∷ 61 ∷ 40 ∷ 98 ∷ 32 ∷ 34 ∷ 99 ∷ 34 ∷ 32 ∷ 41 ∷ 59 ∷ 100 ∷ 44 ∷ 32 ∷ 101 ∷ []) 4 ≡ list.Item (record { range = record { kind = kind.String; from = 6; to = 7 }; next = 8 })
+unfolding pick headOf headIs isEmpty next skip letLen runOf past after mapped going adding onStep turns keyOf tokenOf booleanOf bytesOf fractionOf unsignedOf numberOf stringTurn stringOf bareOf paramOf paramTurn paramsOf itemOf innerTurn innerOf closedOf listOf loneOf bareKey valueOf assignedOf memberOf partedOf dictTurn readAll dataOf sameBy itemRange into latest lastIn valueAt placedAt answerOf pointedAt cursorAt
+example-50 = refl
+
+-- and no third
+example-51 : cursorAt (97 ∷ 61 ∷ 40 ∷ 98 ∷ 32 ∷ 34 ∷ 99 ∷ 34 ∷ 32 ∷ 41 ∷ 59 ∷ 100 ∷ 44 ∷ 32 ∷ 101 ∷ []) 8 ≡ list.End
+unfolding pick headOf headIs isEmpty next skip letLen runOf past after mapped going adding onStep turns keyOf tokenOf booleanOf bytesOf fractionOf unsignedOf numberOf stringTurn stringOf bareOf paramOf paramTurn paramsOf itemOf innerTurn innerOf closedOf listOf loneOf bareKey valueOf assignedOf memberOf partedOf dictTurn readAll dataOf sameBy itemRange into latest lastIn valueAt placedAt answerOf pointedAt cursorAt
+example-51 = refl
+
+-- a cursor past the end
+example-52 : cursorAt (97 ∷ 61 ∷ 40 ∷ 98 ∷ 32 ∷ 34 ∷ 99 ∷ 34 ∷ 32 ∷ 41 ∷ 59 ∷ 100 ∷ 44 ∷ 32 ∷ 101 ∷ []) 99 ≡ list.End
+unfolding pick headOf headIs isEmpty next skip letLen runOf past after mapped going adding onStep turns keyOf tokenOf booleanOf bytesOf fractionOf unsignedOf numberOf stringTurn stringOf bareOf paramOf paramTurn paramsOf itemOf innerTurn innerOf closedOf listOf loneOf bareKey valueOf assignedOf memberOf partedOf dictTurn readAll dataOf sameBy itemRange into latest lastIn valueAt placedAt answerOf pointedAt cursorAt
+example-52 = refl

@@ -1,4 +1,5 @@
 pub mod Dictionaries
 pub mod Lookup
+pub mod Steps
 pub mod Added
 pub mod Examples

@@ -7,24 +7,16 @@ use mathlib.Core.Option.{Option, some, none}
 use lib.ListN.{length, drop}
 use lib.Dec.{eqb}
 use Rattle.ascii.specs.Bytes.{pick}
-use Rattle.ascii.specs.Texts.{sameBytes, partOf}
+use Rattle.ascii.specs.Texts.{sameBytes}
 use Rattle.ascii.specs.Reading.{Parsed, Step, headOf, skip}
 use Rattle.ascii.specs.Reading.Parsed.{parsed, malformed}
 use Rattle.ascii.specs.Reading.Step.{more, done, fail}
-use Rattle.ascii.specs.Places.{restOf, leftAt, low, high}
-use Rattle.ascii.specs.declared.Read.{Read}
-use Rattle.ascii.specs.declared.Read.the-variants as read
 use Rattle.items.specs.Items.{Item, isSpace, itemOf}
 use Rattle.items.specs.Found.{itemRange, itemAs}
-use Rattle.items.specs.declared.ItemFound.{ItemFound}
-use Rattle.dictionaries.specs.Dictionaries.{Value, Placed, Member, Plain, innerTurn, dictionary, plain}
+use Rattle.dictionaries.specs.Dictionaries.{Value, Placed, Member, Plain, innerTurn, dictionary}
 use Rattle.dictionaries.specs.Dictionaries.Value.{one, many}
-use Rattle.dictionaries.specs.declared.TextRange.{TextRange}
-use Rattle.dictionaries.specs.declared.MemberItem.{MemberItem}
-use Rattle.dictionaries.specs.declared.MemberList.{MemberList}
 use Rattle.dictionaries.specs.declared.MemberFound.{MemberFound}
 use Rattle.dictionaries.specs.declared.MemberFound.the-variants as found
-use Rattle.dictionaries.specs.declared.MemberAt.{MemberAt}
 use Rattle.dictionaries.specs.declared.ListItem.{ListItem}
 use Rattle.dictionaries.specs.declared.ListItem.the-variants as list
 
@@ -101,56 +93,6 @@ foundAs s found.NotADictionary = none
 foundAs s found.Absent = some none
 foundAs s (found.Item m) = some (some (one (itemAs s (m .item))))
 foundAs s (found.List m) = some (some (many (itemsFrom s (m .first))))
-
--- the place past a value and its parameters
-abbrev pub endOf : MemberFound → Read
-endOf (found.Item m) = read.At (m .params .to)
-endOf (found.List m) = read.At (m .params .to)
-endOf found.Absent = read.Malformed
-endOf found.NotADictionary = read.Malformed
-
-unfoldable pub valueFound : List ℕ → Parsed Placed → MemberFound
-valueFound s (parsed p l) = placedAt s p
-valueFound s malformed = found.NotADictionary
-
--- the answer is the reading's, does not end before its start, and lies within the text
-pub record IsValue (s : List ℕ) (at : ℕ) (r : MemberFound) (want : Parsed Placed) : Type 0 where
-  pub is : r ≡ valueFound s want
-  pub left : leftAt s (endOf r) ≡ restOf want
-  pub from : at ≤ low (endOf r)
-  pub upto : high (endOf r) ≤ length s
-
-abbrev pub KeyIs : List ℕ → ℕ → ℕ → Parsed Member → Type 0
-KeyIs s at to (parsed m l) = partOf s at to ≡ m .key
-KeyIs s at to malformed = Unit {0}
-
-unfoldable pub memberValue : List ℕ → Parsed Member → MemberFound
-memberValue s (parsed m l) = placedAt s (m .placed)
-memberValue s malformed = found.NotADictionary
-
--- the same of a member, whose key stands at its start
-pub record IsMember (s : List ℕ) (at : ℕ) (r : MemberAt) (want : Parsed Member) : Type 0 where
-  pub is : r .value ≡ memberValue s want
-  pub key : KeyIs s at (r .to) want
-  pub left : leftAt s (endOf (r .value)) ≡ restOf want
-  pub past : at < low (endOf (r .value))
-  pub upto : high (endOf (r .value)) ≤ length s
-
--- the newest of two answers
-unfoldable pub newest : List ℕ → List ℕ → MemberFound → Member → MemberFound
-newest s key b m = pick (sameBytes (m .key) key) (placedAt s (m .placed)) b
-
-unfoldable pub oneOf : {A : Type 0} → Parsed A → List A
-oneOf (parsed x l) = x ∷ []
-oneOf malformed = []
-
-unfoldable pub foldParsed : {A B : Type 0} → (B → A → B) → B → Parsed (List A) → Option B
-foldParsed k b (parsed xs l) = some (into k b xs)
-foldParsed k b malformed = none
-
-unfoldable pub answered : Option MemberFound → MemberFound
-answered (some r) = r
-answered none = found.NotADictionary
 
 -- the next cursor, as a bound from below and from above
 abbrev pub lowNext : ListItem → ℕ

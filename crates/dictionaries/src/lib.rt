@@ -1,12 +1,12 @@
 // RFC 8941 dictionaries: whether a text is one, the last member of a key, and the items of an inner list one after the other.
 ghost use mathlib.Core.Path.{_≡_};
-ghost use mathlib.Core.Option.{Option};
 ghost use Prim.Native.Nat.{_≤_, _<_};
 ghost use lib.ListN.{length, drop};
 ghost use Rattle.ascii.specs.Places.{IsFrom, IsTurn};
 ghost use Rattle.ascii.specs.Reading.{turnsOf};
-ghost use Rattle.dictionaries.specs.Dictionaries.{innerTurn, innerOf, listOf, loneOf, valueOf, closedOf, assignedOf, memberOf, partedBy, dictTurn, dictionary, bareKey};
-ghost use Rattle.dictionaries.specs.Lookup.{into, newest, oneOf, foldParsed, answered, endOf, lastFound, isSome, IsValue, IsMember, IsPointed};
+ghost use Rattle.dictionaries.specs.Dictionaries.{innerTurn, innerOf, listOf, loneOf, valueOf, assignedOf, memberOf, partedBy, dictTurn, dictionary, bareKey};
+ghost use Rattle.dictionaries.specs.Lookup.{into, lastFound, isSome, IsPointed};
+ghost use Rattle.dictionaries.specs.Steps.{newest, oneOf, foldParsed, answered, endOf, IsValue, IsMember};
 use ascii::Class;
 use ascii::Read;
 use ascii::Turn;

@@ -1,20 +1,18 @@
 -- What is left past an item is the end of the text, and shorter than it. Assumes nothing.
-use mathlib.Core.Path.{_≡_, refl, ap, _∙_, sym}
-use Prim.Native.Nat.{ℕ, zero, suc, _+_, _-_, _≤_, _<_}
-use mathlib.Core.List.{List, [], _∷_, _++_}
+use mathlib.Core.Path.{_≡_, refl, ap}
+use Prim.Native.Nat.{ℕ, suc, _-_, _<_}
+use mathlib.Core.List.{List, [], _∷_}
 use mathlib.Core.Bool.{Bool, true, false}
 use native.Mathlib.Omega.{arith}
-use lib.ListN.{length, drop, length-append}
+use lib.ListN.{length, length-append}
 use lib.Dec.{eqb, leb}
-use borrow.Author.Tests.{eqb-true, eqb-false}
-use Rattle.ascii.specs.Bytes.{pick, isKeyStart, isKeyByte, isTokenStart, isTokenByte, isDigit, isBase64, isText}
-use Rattle.ascii.specs.Reading.{Parsed, Step, headOf, headIs, next, skip, letLen, runOf, past, after, mapped, turns}
+use borrow.Author.Tests.{eqb-false}
+use Rattle.ascii.specs.Bytes.{pick, isTokenStart, isTokenByte, isDigit, isBase64}
+use Rattle.ascii.specs.Reading.{Parsed, headOf, headIs, next, skip, letLen, runOf, past, after, mapped, turns}
 use Rattle.ascii.specs.Reading.Parsed.{parsed, malformed}
-use Rattle.ascii.specs.Reading.Step.{more, done, fail}
 use Rattle.ascii.proofs.Reading.{run-cut, token-starts}
-use Rattle.ascii.proofs.Suffixes.{Suffix, Ends, StepEnds, suffix-length, suffix-trans, suffix-past, suffix-drop, ends-wide, ends-turns, suffixes}
-use Rattle.items.specs.Items.{Item, Parameter, keyOf, tokenOf, isTruth, isEscaped, isNumberStart, stringTurn, stringOf, fractionOf, unsignedOf, numberOf, bytesOf, booleanOf, bareOf, paramOf, paramTurn, paramsOf, itemOf}
-use Rattle.items.specs.Items.Item.{token, string, other}
+use Rattle.ascii.proofs.Suffixes.{Suffix, Ends, StepEnds, suffix-length, suffix-past, ends-wide, ends-turns, suffixes}
+use Rattle.items.specs.Items.{Item, keyOf, tokenOf, isTruth, stringTurn, stringOf, fractionOf, unsignedOf, numberOf, bytesOf, booleanOf, bareOf, paramOf, paramTurn, paramsOf, itemOf}
 
 -- each reader leaves an end of its text
 pub key-ends : (l : List ℕ) → Ends l (keyOf l)

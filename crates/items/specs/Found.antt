@@ -14,7 +14,6 @@ use Rattle.items.specs.Items.Item.{token, string, other}
 use Rattle.items.specs.declared.ItemKind.{ItemKind}
 use Rattle.items.specs.declared.ItemKind.the-variants as kind
 use Rattle.items.specs.declared.ItemRange.{ItemRange}
-use Rattle.items.specs.declared.ItemFound.{ItemFound}
 use Rattle.items.specs.declared.ItemRead.{ItemRead}
 use Rattle.items.specs.declared.ItemRead.the-variants as item
 

@@ -1,7 +1,7 @@
 -- RFC 8941 section 4.2: keys, bare items, parameters, items, read from the front of a text.
 use Prim.Native.Nat.{ℕ}
 use mathlib.Core.List.{List, [], _∷_}
-use mathlib.Core.Bool.{Bool, true, false, _||_}
+use mathlib.Core.Bool.{Bool, _||_}
 use lib.ListN.{take}
 use lib.Dec.{leb, eqb}
 use Rattle.ascii.specs.Bytes.{pick, isKeyStart, isKeyByte, isTokenStart, isTokenByte, isBase64, isText, isDigit}

@@ -5,7 +5,7 @@ use borrow.Author.Needs.{needs}
 use Rattle.ascii.specs.Reading.{turnsOf}
 use Rattle.ascii.proofs.Reading.{lows, highs}
 use Rattle.dictionaries.specs.Dictionaries.{memberOf, dictTurn}
-use Rattle.dictionaries.specs.Lookup.{newest, oneOf, foldParsed}
+use Rattle.dictionaries.specs.Steps.{newest, oneOf, foldParsed}
 use Rattle.dictionaries.specs.declared.MemberFound.{MemberFound}
 use Rattle.dictionaries.specs.declared.MemberFound.the-variants as found
 use Rattle.dictionaries.proofs.Folds.{Folded, folded-start, folded-go, folded-done, folded-fail}

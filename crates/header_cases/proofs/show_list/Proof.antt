@@ -1,6 +1,5 @@
 -- The next cursor lies past the one before it, and within the text.
 use Prim.Native.Nat.{_≤_, _-_, _^_}
-use lib.ListN.{length}
 use borrow.Author.Needs.{needs}
 use native.Mathlib.Omega.{arith}
 use Rattle.dictionaries.proofs.Laws.{next-low}
