@@ -189,7 +189,7 @@ fn lone_setting(s: &[u8], item: ItemRange) -> Setting
             items: Cursor::Item(item),
         },
         ItemMeaning::Source(_) => Setting {
-            declared: true,
+            declared: true, // a lone expression declares
             all: false,
             own: false,
             items: Cursor::Item(item),
@@ -204,7 +204,7 @@ fn list_setting(s: &[u8], first: usize) -> Setting
 {
     let m = list_marks(s, first);
     Setting {
-        declared: true,
+        declared: true, // whatever its items are
         all: m.all,
         own: m.own,
         items: Cursor::List(first),
