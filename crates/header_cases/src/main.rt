@@ -1,9 +1,12 @@
 // The examples of RFC 8941's grammar and document 01's header rows, read by the library: one line for each.
+use declarations::Setting;
 use dictionaries::ListItem;
 use dictionaries::MemberFound;
 use dictionaries::TextRange;
 use items::ItemKind;
 use items::ItemRange;
+use origins::OriginRange;
+use origins::OriginText;
 
 fn put(s: &[u8]) {
     io::write_all(1, s);
@@ -182,6 +185,75 @@ fn looks_2() {
     show(b"a=1", b"");
 }
 
+// Whether camera's list admits an origin, for a document at https://a.example.
+fn ask(s: &[u8], d: Setting, text: &[u8], o: OriginRange) {
+    let same = ascii::same(text, b"https://a.example");
+    if declarations::admits(s, d, same, text, o) {
+        put(b"yes");
+    } else {
+        put(b"no");
+    }
+}
+
+fn ask_text(s: &[u8], d: Setting, text: &[u8]) {
+    match origins::origin_text(text) {
+        OriginText::Tuple(o) => ask(s, d, text, OriginRange::Tuple(o)),
+        OriginText::Null => ask(s, d, text, OriginRange::Fresh),
+        OriginText::Empty => put(b"empty"),
+        OriginText::NotAnOrigin => put(b"no origin"),
+    }
+}
+
+// What a header declares for camera, feature 0.
+fn camera(s: &[u8]) {
+    put(b"camera of ");
+    put(s);
+    let k = declarations::settle(s);
+    if k.malformed {
+        put(b": malformed\n");
+        return;
+    }
+    let d = k.features[0];
+    if !d.declared {
+        put(b": undeclared\n");
+        return;
+    }
+    put(b": own ");
+    ask_text(s, d, b"https://a.example");
+    put(b", other ");
+    ask_text(s, d, b"https://b.example");
+    put(b", opaque ");
+    ask_text(s, d, b"null");
+    put(b"\n");
+}
+
+// Document 01's rows about headers, and its slips.
+fn declared_1() {
+    camera(b"");
+    camera(b"camera=(), camera=1");
+    camera(b"camera=(\"junk\")");
+    camera(b"camera=(self), ");
+    camera(b"Camera=()");
+    camera(b"camera=(self");
+    camera(b"camera=(self\tself)");
+    camera(b"camera=self, foo=\"\\n\"");
+    camera(b"camera=*");
+    camera(b"camera=self");
+}
+
+fn declared_2() {
+    camera(b"camera=(self *)");
+    camera(b"camera=\"https://b.example\"");
+    camera(b"camera=https://b.example");
+    camera(b"camera=(https://b.example)");
+    camera(b"camera=(\"https://B.example:443\" self)");
+    camera(b"camera=\"self\"");
+    camera(b"camera=(self), camera=()");
+    camera(b"camera");
+    camera(b"camera=(\"https:\")");
+    camera(b"usb=self");
+}
+
 fn main() {
     good_1();
     good_2();
@@ -190,4 +262,6 @@ fn main() {
     bad_3();
     looks_1();
     looks_2();
+    declared_1();
+    declared_2();
 }
