@@ -20,34 +20,18 @@ fn put(t: &[u8]) {
     io::write_all(1, t);
 }
 
-fn put_number(n: u32) {
-    io::print_decimal(1, n as u64);
-}
-
-fn put_length(t: &[u8]) {
-    io::print_decimal(1, t.len() as u64);
-    put(b" bytes");
-}
-
-fn put_text(t: &[u8]) {
+// A text in quotes, with a word before it.
+fn put_text(word: &[u8], t: &[u8]) {
+    put(word);
     put(b" \"");
     if SHOWN < t.len() {
         put(ascii::part(t, 0, 12));
         put(b"..\" of ");
-        put_length(t);
+        io::print_decimal(1, t.len() as u64);
+        put(b" bytes");
     } else {
         put(t);
         put(b"\"");
-    }
-}
-
-fn put_host(h: &[u8]) {
-    if SHOWN < h.len() {
-        put(b"(");
-        put_length(h);
-        put(b")");
-    } else {
-        put(h);
     }
 }
 
@@ -61,26 +45,33 @@ fn put_answer(yes: bool) {
 
 fn put_scheme(k: Scheme) {
     match k {
-        Scheme::Http => put(b"http"),
-        Scheme::Https => put(b"https"),
+        Scheme::Http => put(b": http"),
+        Scheme::Https => put(b": https"),
+    }
+}
+
+fn put_port(p: PortPart) {
+    match p {
+        PortPart::Default => put(b", default port\n"),
+        PortPart::Any => put(b", any port\n"),
+        PortPart::Number(n) => {
+            put(b", port ");
+            io::print_decimal(1, n as u64);
+            put(b"\n");
+        }
     }
 }
 
 fn put_tuple(s: &[u8], r: TupleRange) {
     let k = r.scheme;
-    put(b": ");
     put_scheme(k);
-    put(b", host ");
-    put_host(ascii::part(s, r.from, r.to));
-    put(b", port ");
-    put_number(r.port);
-    put(b"\n");
+    put_text(b", host", ascii::part(s, r.from, r.to));
+    put_port(PortPart::Number(r.port));
 }
 
 // What an origin text says.
 fn origin(s: &[u8]) {
-    put(b"origin");
-    put_text(s);
+    put_text(b"origin", s);
     match origins::origin_text(s) {
         OriginText::Empty => put(b": empty\n"),
         OriginText::Null => put(b": null\n"),
@@ -89,45 +80,32 @@ fn origin(s: &[u8]) {
     }
 }
 
-fn put_port(p: PortPart) {
-    match p {
-        PortPart::Default => put(b"default port\n"),
-        PortPart::Any => put(b"any port\n"),
-        PortPart::Number(n) => {
-            put(b"port ");
-            put_number(n);
-            put(b"\n");
-        }
-    }
-}
-
-// A host part with what stands before it, and the port-part.
-fn put_parts(before: &[u8], h: &[u8], p: PortPart) {
-    put(before);
-    put_host(h);
-    put(b", ");
-    put_port(p);
-}
-
 fn put_expression(s: &[u8], e: ExpressionRange) {
     let k = e.scheme;
     let kind = e.host;
     let p = e.port;
     let h = ascii::part(s, e.from, e.to);
-    put(b": ");
     put_scheme(k);
     match kind {
         HostKind::None => put(b" alone\n"),
-        HostKind::Any => put_parts(b", any host", h, p),
-        HostKind::Exact => put_parts(b", host ", h, p),
-        HostKind::Subdomains => put_parts(b", subdomains of ", h, p),
+        HostKind::Any => {
+            put(b", any host");
+            put_port(p);
+        }
+        HostKind::Exact => {
+            put_text(b", host", h);
+            put_port(p);
+        }
+        HostKind::Subdomains => {
+            put_text(b", subdomains of", h);
+            put_port(p);
+        }
     }
 }
 
 // What an expression is read as.
 fn expression(s: &[u8]) {
-    put(b"expression");
-    put_text(s);
+    put_text(b"expression", s);
     match origins::expression(s) {
         Source::Expression(e) => put_expression(s, e),
         Source::NotAnExpression => put(b": none\n"),
@@ -158,52 +136,34 @@ fn put_admits(s: &[u8], t: &[u8], o: OriginRange) {
 
 // Whether an expression admits the origin of a text.
 fn admits(s: &[u8], t: &[u8]) {
-    put(b"admits");
-    put_text(s);
-    put_text(t);
+    put_text(b"admits", s);
+    put_text(b"", t);
     match asked(t) {
         Said::Origin(o) => put_admits(s, t, o),
         Said::None => put(b": no origin\n"),
     }
 }
 
-// Whether an expression admits an opaque origin.
-fn admits_opaque(s: &[u8], n: u32) {
-    put(b"admits");
-    put_text(s);
-    put(b" opaque ");
-    put_number(n);
-    put_admits(s, b"", OriginRange::Opaque(n));
-}
-
-fn put_same(s: &[u8], a: OriginRange, t: &[u8]) {
-    match asked(t) {
-        Said::Origin(b) => put_answer(origins::same_origin(s, a, t, b)),
-        Said::None => put(b": no origin\n"),
-    }
-}
-
 // Whether the origins of two texts are the same.
 fn same(s: &[u8], t: &[u8]) {
-    put(b"same");
-    put_text(s);
-    put_text(t);
+    put_text(b"same", s);
+    put_text(b"", t);
     match asked(s) {
-        Said::Origin(a) => put_same(s, a, t),
+        Said::Origin(a) => match asked(t) {
+            Said::Origin(b) => put_answer(origins::same_origin(s, a, t, b)),
+            Said::None => put(b": no origin\n"),
+        },
         Said::None => put(b": no origin\n"),
     }
 }
 
-// Whether two opaque origins are the same.
-fn same_opaque(m: u32, n: u32) {
-    put(b"same opaque ");
-    put_number(m);
-    put(b" and opaque ");
-    put_number(n);
-    put_answer(origins::same_origin(b"", OriginRange::Opaque(m), b"", OriginRange::Opaque(n)));
-}
-
-fn put_default(n: u32) {
+// The name and the default list of a number.
+fn number(n: u32) {
+    put(b": number ");
+    io::print_decimal(1, n as u64);
+    let name = features::name_of(n);
+    let bytes = name.bytes;
+    put_text(b", name", ascii::part(&bytes, 0, name.len));
     match features::default_of(n) {
         DefaultOf::All => put(b", default *\n"),
         DefaultOf::SelfOnly => put(b", default self\n"),
@@ -211,29 +171,13 @@ fn put_default(n: u32) {
     }
 }
 
-// The feature of a name, and its default list.
+// The feature of a name.
 fn feature(word: &[u8]) {
-    put(b"feature");
-    put_text(word);
+    put_text(b"feature", word);
     match features::feature_of(word) {
-        Lookup::Known(n) => {
-            put(b": ");
-            put_number(n);
-            put_default(n);
-        }
+        Lookup::Known(n) => number(n),
         Lookup::Unknown => put(b": unknown\n"),
     }
-}
-
-// The name and the default list of a number.
-fn number(n: u32) {
-    put(b"number ");
-    put_number(n);
-    put(b":");
-    let name = features::name_of(n);
-    let bytes = name.bytes;
-    put_text(ascii::part(&bytes, 0, name.len));
-    put_default(n);
 }
 
 // A text in quotes, and the place past it.
@@ -255,6 +199,7 @@ fn next_text(line: &[u8], at: usize) -> Quoted {
     }
 }
 
+// A kind is told by its first letter.
 fn case(line: &[u8]) {
     let one = next_text(line, 0);
     let two = next_text(line, one.past);
@@ -280,20 +225,17 @@ fn cases(list: &[u8]) {
     }
 }
 
-// The cases of opaque origins that documents have: no text says them.
-fn opaque_origins() {
-    admits_opaque(b"https:", 1);
-    admits_opaque(b"http://*:*", 1);
-    same_opaque(1, 1);
-    same_opaque(1, 2);
-}
-
-fn feature_numbers() {
-    let mut n: u32 = 0;
-    while n < 18 {
-        number(n);
-        n += 1;
-    }
+// Opaque origins that documents have, and numbers of no feature: no text says them.
+fn further_cases() {
+    put(b"opaque 1 and scheme https");
+    put_admits(b"https:", b"", OriginRange::Opaque(1));
+    put(b"opaque 1 and opaque 1");
+    put_answer(origins::same_origin(b"", OriginRange::Opaque(1), b"", OriginRange::Opaque(1)));
+    put(b"opaque 1 and opaque 2");
+    put_answer(origins::same_origin(b"", OriginRange::Opaque(1), b"", OriginRange::Opaque(2)));
+    put(b"no feature");
+    number(17);
+    put(b"no feature");
     number(4_294_967_295);
 }
 
@@ -301,6 +243,5 @@ fn main() {
     let mut list = io::large_buffer();
     let n = io::read_full(0, &mut list);
     cases(&list[..n]);
-    opaque_origins();
-    feature_numbers();
+    further_cases();
 }
