@@ -11,3 +11,5 @@ pub mod HostBytes
 pub mod Back
 pub mod Said
 pub mod Laws
+pub mod PortTexts
+pub mod Normals

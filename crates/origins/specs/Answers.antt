@@ -1,14 +1,18 @@
 -- What the code's answers mean: 01's values for each of their cases, with hosts as ranges of the texts that they stand in.
 use Prim.Native.Nat.{ℕ, _+_}
-use mathlib.Core.List.{List}
+use mathlib.Core.Path.{_≡_}
+use mathlib.Core.List.{List, _++_}
 use mathlib.Core.Option.{Option, some, none}
-use lib.ListN.{length}
+use lib.ListN.{length, drop, replicate}
+use Rattle.limits.specs.Limits.{portDigits}
 use Rattle.ascii.specs.Texts.{lowered, partOf}
 use Rattle.origins.specs.Origins.{TupleOrigin, Origin, OriginSaid, schemeSlashes}
 use Rattle.origins.specs.Origins.Origin.{tuple, opaque, fresh}
 use Rattle.origins.specs.Origins.OriginSaid.{saysEmpty, saysNull, saysTuple, noOrigin}
 use Rattle.origins.specs.Expressions.{HostPart, SourceExpression}
 use Rattle.origins.specs.Expressions.HostPart.{noHost, anyHost, exactHost, subdomainsOf}
+use Rattle.origins.specs.NormalForms.{portText}
+use Rattle.origins.specs.declared.PortText.{PortText}
 use Rattle.origins.specs.declared.Scheme.{Scheme}
 use Rattle.origins.specs.declared.PortPart.{PortPart}
 use Rattle.origins.specs.declared.TupleRange.{TupleRange}
@@ -80,3 +84,9 @@ hostIn kind.Subdomains h = subdomainsOf h
 
 abbrev pub expressionIn : List ℕ → ExpressionRange → SourceExpression
 expressionIn s r = record { scheme = r .scheme; host = hostIn (r .host) (lowered (partOf s (r .from) (r .to))); port = r .port }
+
+-- a port's digits at the end of five bytes, zeros before them
+pub record IsPortText (n : ℕ) (r : PortText) : Type 0 where
+  pub from : r .from + length (portText n) ≡ portDigits
+  pub bytes : r .bytes ≡ replicate (r .from) 48 ++ portText n
+  pub text : drop (r .from) (r .bytes) ≡ portText n

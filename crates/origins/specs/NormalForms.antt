@@ -2,15 +2,17 @@
 use Prim.Native.Nat.{ℕ, zero, suc, _+_, _/_, _%_, _≤_}
 use mathlib.Core.Path.{_≡_}
 use mathlib.Core.List.{List, [], _∷_, _++_}
-use mathlib.Core.Bool.{Bool, true, false}
+use mathlib.Core.Bool.{Bool, true, false, _&&_}
 use lib.Dec.{ltb, eqb}
 use Rattle.limits.specs.Limits.{lastPort, hostBytes, portDigits}
 use Rattle.ascii.specs.Bytes.{pick}
+use Rattle.ascii.specs.Texts.{sameBytes}
 use Rattle.origins.specs.Hosts.{isHost}
 use Rattle.origins.specs.Ports.{defaultPort}
 use Rattle.origins.specs.Origins.{TupleOrigin, schemeText, schemeSlashes}
 use Rattle.origins.specs.Expressions.{HostPart, SourceExpression}
 use Rattle.origins.specs.Expressions.HostPart.{noHost, anyHost, exactHost, subdomainsOf}
+use Rattle.origins.specs.Matching.{sameScheme}
 use Rattle.origins.specs.declared.Scheme.{Scheme}
 use Rattle.origins.specs.declared.PortPart.{PortPart}
 use Rattle.origins.specs.declared.PortPart.the-variants.{Default, Any, Number}
@@ -50,6 +52,39 @@ normal e = record { scheme = e .scheme; host = e .host; port = normalPort (e .sc
 -- the normal form of an expression
 abbrev pub normalForm : SourceExpression → List ℕ
 normalForm e = expressionText (normal e)
+
+-- whether two expressions are the same, part by part
+unfoldable pub sameHost : HostPart → HostPart → Bool
+sameHost noHost noHost = true
+sameHost noHost anyHost = false
+sameHost noHost (exactHost y) = false
+sameHost noHost (subdomainsOf y) = false
+sameHost anyHost noHost = false
+sameHost anyHost anyHost = true
+sameHost anyHost (exactHost y) = false
+sameHost anyHost (subdomainsOf y) = false
+sameHost (exactHost x) noHost = false
+sameHost (exactHost x) anyHost = false
+sameHost (exactHost x) (exactHost y) = sameBytes x y
+sameHost (exactHost x) (subdomainsOf y) = false
+sameHost (subdomainsOf x) noHost = false
+sameHost (subdomainsOf x) anyHost = false
+sameHost (subdomainsOf x) (exactHost y) = false
+sameHost (subdomainsOf x) (subdomainsOf y) = sameBytes x y
+
+unfoldable pub samePort : PortPart → PortPart → Bool
+samePort Default Default = true
+samePort Default Any = false
+samePort Default (Number n) = false
+samePort Any Default = false
+samePort Any Any = true
+samePort Any (Number n) = false
+samePort (Number m) Default = false
+samePort (Number m) Any = false
+samePort (Number m) (Number n) = eqb m n
+
+unfoldable pub sameExpression : SourceExpression → SourceExpression → Bool
+sameExpression a b = sameScheme (a .scheme) (b .scheme) && samePort (a .port) (b .port) && sameHost (a .host) (b .host)
 
 -- a tuple origin's text
 unfoldable pub originText : TupleOrigin → List ℕ

@@ -8,6 +8,8 @@ use Rattle.origins.specs.Ports.{decimal, isPortPart}
 use Rattle.origins.specs.Expressions.{HostPart}
 use Rattle.origins.specs.Expressions.HostPart.{noHost, anyHost, exactHost, subdomainsOf}
 use Rattle.origins.specs.declared.PortPart.{PortPart}
+use Rattle.origins.specs.declared.HostKind.{HostKind}
+use Rattle.origins.specs.declared.HostKind.the-variants as kind
 use Rattle.origins.specs.declared.Digits.{Digits}
 use Rattle.origins.specs.declared.Digits.the-variants as digits
 use Rattle.origins.specs.declared.PortRead.{PortRead}
@@ -38,3 +40,21 @@ hostAs (some anyHost) = host.Any
 hostAs (some (exactHost h)) = host.Exact
 hostAs (some (subdomainsOf h)) = host.Subdomains
 hostAs none = host.None
+
+abbrev pub sameKind : HostKind → HostKind → Bool
+sameKind kind.None kind.None = true
+sameKind kind.None kind.Any = false
+sameKind kind.None kind.Exact = false
+sameKind kind.None kind.Subdomains = false
+sameKind kind.Any kind.None = false
+sameKind kind.Any kind.Any = true
+sameKind kind.Any kind.Exact = false
+sameKind kind.Any kind.Subdomains = false
+sameKind kind.Exact kind.None = false
+sameKind kind.Exact kind.Any = false
+sameKind kind.Exact kind.Exact = true
+sameKind kind.Exact kind.Subdomains = false
+sameKind kind.Subdomains kind.None = false
+sameKind kind.Subdomains kind.Any = false
+sameKind kind.Subdomains kind.Exact = false
+sameKind kind.Subdomains kind.Subdomains = true

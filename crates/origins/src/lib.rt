@@ -1,17 +1,18 @@
 // Origin texts and source expressions: what a text says, and whether an expression admits an origin.
 ghost use mathlib.Core.Path.{_≡_};
 ghost use mathlib.Core.List.{_∷_};
-ghost use Prim.Native.Nat.{_≤_, _-_};
+ghost use Prim.Native.Nat.{_≤_, _<_, _-_, _+_};
 ghost use lib.ListN.{length, drop};
 ghost use mathlib.Core.Option.{some};
-ghost use Rattle.ascii.specs.Texts.{every, lowered, each};
+ghost use Rattle.ascii.specs.Texts.{every, lowered, each, sameLowered};
 ghost use Rattle.origins.specs.Hosts.{labels, isLabel, isHost};
 ghost use Rattle.origins.specs.Ports.{defaultPort, leadsZero, originPort, portPartOf};
 ghost use Rattle.origins.specs.Origins.{schemeSlashes, startsWith, originOf, tupleOf};
 ghost use Rattle.origins.specs.Expressions.{schemeSource, startsLowered, hostPartOf, hostSourceOf, expressionOf};
-ghost use Rattle.origins.specs.Steps.{fold, portNumber, digitsAs, portAs, hostAs};
+ghost use Rattle.origins.specs.Steps.{fold, portNumber, digitsAs, portAs, hostAs, sameKind};
 ghost use Rattle.origins.specs.Matching.{sameScheme, endsIn, portAdmits, admitsTuple, admits, sameTuple, sameOrigin};
-ghost use Rattle.origins.specs.Answers.{originAs, sourceAs, tupleIn, originIn, expressionIn};
+ghost use Rattle.origins.specs.Answers.{originAs, sourceAs, tupleIn, originIn, expressionIn, IsPortText};
+ghost use Rattle.origins.specs.NormalForms.{normalPort, normal, samePort, sameExpression};
 use ascii::Class;
 use limits::HOST_BYTES;
 use limits::LAST_PORT;
@@ -490,5 +491,154 @@ pub fn same_origin(s: &[u8], a: OriginRange, t: &[u8], b: OriginRange) -> bool
             OriginRange::Fresh => false,
         },
         OriginRange::Fresh => false,
+    }
+}
+
+// The port-part of an expression's normal form.
+pub fn normal_port(k: Scheme, p: PortPart) -> PortPart
+    ensures { λ r. ⌜ r ≡ normalPort k p ⌝ }
+{
+    match p {
+        PortPart::Default => PortPart::Default,
+        PortPart::Any => PortPart::Any,
+        PortPart::Number(n) => {
+            if n == default_port(k) {
+                PortPart::Default
+            } else {
+                PortPart::Number(n)
+            }
+        }
+    }
+}
+
+// A port in decimal: the bytes from `from` on.
+pub struct PortText {
+    pub bytes: [u8; PORT_DIGITS],
+    pub from: usize,
+}
+
+fn digit_byte(n: u32) -> u8
+    requires { ⌜ n < 10 ⌝ }
+    ensures { λ r. ⌜ r ≡ 48 + n ⌝ }
+{
+    48 + (n % 10) as u8
+}
+
+// A port in decimal, its last five digits.
+pub fn port_text(n: u32) -> PortText
+    ensures { λ r. ⌜ IsPortText n r ⌝ }
+{
+    let mut bytes = [b'0'; PORT_DIGITS];
+    let mut from = PORT_DIGITS;
+    let mut left = n;
+    while 0 < from {
+        from -= 1;
+        bytes[from] = digit_byte(left % 10);
+        if left < 10 {
+            return PortText { bytes, from };
+        }
+        left = left / 10;
+    }
+    PortText { bytes, from }
+}
+
+fn same_kind(a: HostKind, b: HostKind) -> bool
+    ensures { λ r. ⌜ r ≡ sameKind a b ⌝ }
+{
+    match a {
+        HostKind::None => match b {
+            HostKind::None => true,
+            HostKind::Any => false,
+            HostKind::Exact => false,
+            HostKind::Subdomains => false,
+        },
+        HostKind::Any => match b {
+            HostKind::None => false,
+            HostKind::Any => true,
+            HostKind::Exact => false,
+            HostKind::Subdomains => false,
+        },
+        HostKind::Exact => match b {
+            HostKind::None => false,
+            HostKind::Any => false,
+            HostKind::Exact => true,
+            HostKind::Subdomains => false,
+        },
+        HostKind::Subdomains => match b {
+            HostKind::None => false,
+            HostKind::Any => false,
+            HostKind::Exact => false,
+            HostKind::Subdomains => true,
+        },
+    }
+}
+
+fn same_port(a: PortPart, b: PortPart) -> bool
+    ensures { λ r. ⌜ r ≡ samePort a b ⌝ }
+{
+    match a {
+        PortPart::Default => match b {
+            PortPart::Default => true,
+            PortPart::Any => false,
+            PortPart::Number(_) => false,
+        },
+        PortPart::Any => match b {
+            PortPart::Default => false,
+            PortPart::Any => true,
+            PortPart::Number(_) => false,
+        },
+        PortPart::Number(m) => match b {
+            PortPart::Default => false,
+            PortPart::Any => false,
+            PortPart::Number(n) => m == n,
+        },
+    }
+}
+
+// Whether two hosts of expressions are the same, in any case.
+fn same_any_case(a: &[u8], b: &[u8]) -> bool
+    ensures { λ r. ⌜ r ≡ sameLowered (now (a .entry)) (lowered (now (b .entry))) ⌝ }
+{
+    let mut i: usize = 0;
+    while i < a.len() {
+        if b.len() <= i {
+            return false;
+        }
+        let x = ascii::lower(a[i]);
+        let y = ascii::lower(b[i]);
+        if x != y {
+            return false;
+        }
+        i += 1;
+    }
+    if i < b.len() { false } else { true }
+}
+
+// Whether two expressions, each of its own text, have the same normal form.
+pub fn same_normal(s: &[u8], e: ExpressionRange, t: &[u8], f: ExpressionRange) -> bool
+    ensures { λ r. ⌜ r ≡ sameExpression (normal (expressionIn (now (s .entry)) e)) (normal (expressionIn (now (t .entry)) f)) ⌝ }
+{
+    let k = e.scheme;
+    let j = f.scheme;
+    if !same_scheme(k, j) {
+        return false;
+    }
+    let p = e.port;
+    let q = f.port;
+    if !same_port(normal_port(k, p), normal_port(j, q)) {
+        return false;
+    }
+    let kind = e.host;
+    let other = f.host;
+    if !same_kind(kind, other) {
+        return false;
+    }
+    let x = ascii::part(s, e.from, e.to);
+    let y = ascii::part(t, f.from, f.to);
+    match kind {
+        HostKind::None => true,
+        HostKind::Any => true,
+        HostKind::Exact => same_any_case(x, y),
+        HostKind::Subdomains => same_any_case(x, y),
     }
 }
