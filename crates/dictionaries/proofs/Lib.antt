@@ -5,3 +5,5 @@ pub mod Standing
 pub mod Laws
 pub mod Tallies
 pub mod Headers
+pub mod Back
+pub mod WrittenHeaders

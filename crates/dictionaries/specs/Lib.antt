@@ -2,4 +2,5 @@ pub mod Dictionaries
 pub mod Lookup
 pub mod Steps
 pub mod Added
+pub mod Written
 pub mod Examples

@@ -1,0 +1,250 @@
+-- Members that are written are read back. Assumes nothing.
+use mathlib.Core.Path.{_≡_, refl, ap, _∙_, sym}
+use Prim.Native.Nat.{ℕ, zero, suc, _≤_, _<_}
+use mathlib.Core.List.{List, [], _∷_, _++_, map, append-assoc}
+use mathlib.Core.Bool.{Bool, true, false, not, _||_}
+use mathlib.Core.Option.{some}
+use native.Mathlib.Omega.{arith}
+use lib.ListN.{length, length-append, length-map}
+use lib.Dec.{eqb}
+use borrow.Author.Tests.{eqb-true}
+use Rattle.ascii.specs.Bytes.{pick, isKeyStart, isKeyByte, isTokenStart, isTokenByte, isText}
+use Rattle.ascii.specs.Literals.{text}
+use Rattle.ascii.specs.Texts.{every}
+use Rattle.ascii.specs.Reading.{headOf, headIs, isEmpty, next, skip, past, after, mapped, going, adding, onStep, turns}
+use Rattle.ascii.specs.Reading.Parsed.{parsed}
+use Rattle.ascii.specs.Reading.Step.{more, done}
+use Rattle.ascii.proofs.Bytes.{and-left, and-right}
+use Rattle.ascii.proofs.Texts.{every-run, every-past}
+use Rattle.items.specs.Items.{Item, isSpace, isEscaped, keyOf, tokenOf, stringTurn, stringOf, bareOf, paramTurn, paramsOf, itemOf}
+use Rattle.items.specs.Items.Item.{token, string, other}
+use Rattle.dictionaries.specs.Dictionaries.{Value, Placed, Member, Plain, isBlank, innerTurn, innerOf, closedOf, listOf, loneOf, valueOf, assignedOf, memberOf, partedOf, dictTurn, readAll, dataOf, dictionary, plains, plainly, members}
+use Rattle.dictionaries.specs.Dictionaries.Value.{one, many}
+use Rattle.dictionaries.specs.Lookup.{isSome}
+use Rattle.dictionaries.specs.Written.{eachAfter, joinedBy, itemText, valueText, memberText, written, GoodKey, isUnescaped, GoodItem, All, GoodValue, GoodMember, AllGood}
+use Rattle.dictionaries.specs.Written.All.{and}
+
+-- RFC 8941 section 4.1.2: where more remain, the separator is appended, and they
+pub joined-more : (c t u : List ℕ) (us : List (List ℕ)) → joinedBy c (t ∷ u ∷ us) ≡ t ++ (c ++ joinedBy c (u ∷ us))
+unfolding joinedBy eachAfter
+joined-more c t u us = refl
+
+-- a byte of a class is none that the class lacks
+differs : (p : ℕ → Bool) (x c : ℕ) → p x ≡ true → p c ≡ false → eqb x c ≡ false
+differs p x c h k = go (eqb x c) refl
+  where
+    go : (b : Bool) → eqb x c ≡ b → b ≡ false
+    go true e = sym h ∙ (ap p (eqb-true x c e) ∙ k)
+    go false e = refl
+
+-- a text whose first byte is of a class is not empty, so what follows it does not change its first byte
+starts-on : (p : ℕ → Bool) (t ys : List ℕ) → headIs p t ≡ true → p 0 ≡ false → headOf (t ++ ys) ≡ headOf t
+unfolding headIs headOf
+starts-on p [] ys h z = absurd (let w : _≡_ {A = ℕ} 0 1 = cc in omega arith)
+starts-on p (x ∷ xs) ys h z = refl
+
+-- a key is read whole, and a byte that is not of a key ends it
+key-back : (k ys : List ℕ) → GoodKey k → isKeyByte (headOf ys) ≡ false → keyOf (k ++ ys) ≡ parsed k ys
+unfolding keyOf pick headIs
+key-back k ys g e =
+    simp (starts-on isKeyStart k ys (g .starts) refl, g .starts, every-run isKeyByte k ys (g .bytes) e, every-past isKeyByte k ys (g .bytes) e)
+
+-- a byte of a string that needs no escape
+module _ (x : ℕ) (h : isUnescaped x ≡ true) where
+  is-text : isText x ≡ true
+  is-text = and-left (isText x) (not (isEscaped x)) h
+
+  no-quote : eqb x 34 ≡ false
+  no-quote = differs isUnescaped x 34 h refl
+
+  no-backslash : eqb x 92 ≡ false
+  no-backslash = differs isUnescaped x 92 h refl
+
+-- the characters of a string, up to its quote
+string-turns : (t ys : List ℕ) (n : ℕ) → every isUnescaped t ≡ true → length t < n → turns stringTurn n (t ++ (34 ∷ ys)) ≡ parsed t ys
+unfolding every turns onStep adding stringTurn headOf headIs pick next
+string-turns t ys zero a h = absurd (omega arith)
+string-turns [] ys (suc n) a h = refl
+string-turns (x ∷ xs) ys (suc n) a h =
+    let u : isUnescaped x ≡ true = and-left (isUnescaped x) (every isUnescaped xs) a in
+    simp (no-backslash x u, no-quote x u, is-text x u, string-turns xs ys n (and-right (isUnescaped x) (every isUnescaped xs) a) (omega arith))
+
+-- no parameters
+params-none : (ys : List ℕ) → eqb (headOf ys) 59 ≡ false → paramsOf ys ≡ parsed [] ys
+unfolding paramsOf turns onStep paramTurn pick
+params-none ys e = rw e
+
+-- what follows an item: a byte that no item goes on with
+record Ends (ys : List ℕ) : Type 0 where
+  token : isTokenByte (headOf ys) ≡ false
+  params : eqb (headOf ys) 59 ≡ false
+
+-- an item is read back, wherever it stands before such a byte
+bare-back : (x : Item) (ys : List ℕ) → GoodItem x → Ends ys → bareOf (itemText x ++ ys) ≡ parsed x ys
+unfolding itemText bareOf tokenOf stringOf pick next after mapped headOf headIs
+bare-back (token t) ys g e =
+    simp
+    (starts-on isTokenStart t ys (g .starts) refl, differs isTokenStart (headOf t) 34 (g .starts) refl, g .starts, every-run isTokenByte t ys (g .bytes) (e .token), every-past isTokenByte t ys (g .bytes) (e .token))
+bare-back (string t) ys g e = simp (append-assoc, string-turns t ys (suc (length (t ++ (34 ∷ ys)))) g (simp length-append (omega arith)))
+bare-back other ys g e = absurd g
+
+item-back : (x : Item) (ys : List ℕ) → GoodItem x → Ends ys → itemOf (itemText x ++ ys) ≡ parsed x ys
+unfolding itemOf after mapped
+item-back x ys g e = simp (bare-back x ys g e, params-none ys (e .params))
+
+-- the first byte of an item starts a token, or is a quote
+item-head : (x : Item) (ys : List ℕ) → GoodItem x → (c : ℕ) → isTokenStart c ≡ false → eqb 34 c ≡ false → eqb (headOf (itemText x ++ ys)) c ≡ false
+unfolding itemText headOf headIs
+item-head (token t) ys g c h q = simp (starts-on isTokenStart t ys (g .starts) refl) (differs isTokenStart (headOf t) c (g .starts) h)
+item-head (string t) ys g c h q = q
+item-head other ys g c h q = absurd g
+
+-- an inner list: what follows an item of it, a space or its end
+record Parts (ys : List ℕ) : Type 0 where
+  ends : Ends ys
+  parts : eqb (headOf ys) 32 || eqb (headOf ys) 41 ≡ true
+
+inner-turn : (x : Item) (ys : List ℕ) → GoodItem x → Parts ys → innerTurn (itemText x ++ ys) ≡ more (x ∷ []) ys
+unfolding innerTurn skip going pick
+inner-turn x ys g e =
+    simp
+    (every-past isSpace [] (itemText x ++ ys) (unfold every in refl) (item-head x ys g 32 refl refl), item-head x ys g 41 refl refl, item-back x ys g (e .ends), e .parts)
+
+-- a space before it changes nothing
+inner-space : (l : List ℕ) → innerTurn (32 ∷ l) ≡ innerTurn l
+unfolding innerTurn skip past pick
+inner-space l = refl
+
+-- its end
+inner-end : (ys : List ℕ) → innerTurn (41 ∷ ys) ≡ done [] ys
+unfolding innerTurn skip past pick next headOf
+inner-end ys = refl
+
+-- the items past the first of a list, and its end
+abbrev followingItems : List Item → List ℕ → List ℕ
+followingItems xs ys = eachAfter (text " ") (map itemText xs) ++ (41 ∷ ys)
+
+items-part : (xs : List Item) (ys : List ℕ) → Parts (followingItems xs ys)
+unfolding eachAfter headOf
+items-part [] ys = record { ends = record { token = refl; params = refl }; parts = refl }
+items-part (x ∷ xs) ys = record { ends = record { token = refl; params = refl }; parts = refl }
+
+-- the turns from the first item's end on
+list-turns : (xs : List Item) (ys : List ℕ) (n : ℕ) → All GoodItem xs → length xs < n → turns innerTurn n (followingItems xs ys) ≡ parsed xs ys
+unfolding eachAfter turns onStep adding
+list-turns xs ys zero a h = absurd (omega arith)
+list-turns [] ys (suc n) a h = simp inner-end
+list-turns (x ∷ xs) ys (suc n) (and g a) h =
+    simp (append-assoc, inner-space, inner-turn x (followingItems xs ys) g (items-part xs ys), list-turns xs ys n a (omega arith))
+
+-- there are no more texts than bytes, and so enough turns
+each-long : (c : ℕ) (cs : List ℕ) (ts : List (List ℕ)) → length ts ≤ length (eachAfter (c ∷ cs) ts)
+unfolding eachAfter
+each-long c cs [] = omega arith
+each-long c cs (t ∷ ts) = simp length-append (omega (arith, each-long c cs ts))
+
+-- an inner list is read back, from its first item on
+inner-back : (xs : List Item) (ys : List ℕ) → All GoodItem xs → innerOf (joinedBy (text " ") (map itemText xs) ++ (41 ∷ ys)) ≡ parsed xs ys
+unfolding innerOf joinedBy turns onStep adding
+inner-back [] ys a = simp inner-end
+inner-back (x ∷ xs) ys (and g a) =
+    let l : List ℕ = followingItems xs ys in
+    simp (append-assoc, inner-turn x l g (items-part xs ys), list-turns xs ys (length (itemText x ++ l)) a (simp length-append (omega (arith, length-map xs itemText, each-long 32 [] (map itemText xs)))))
+
+-- where a value stands that is written before a text
+unfoldable pub placedIn : Value → List ℕ → Placed
+placedIn (one x) ys = record { value = one x; start = length (itemText x ++ ys); params = length ys; end = length ys }
+placedIn (many xs) ys =
+    record {
+      value = many xs;
+      start = length (joinedBy (text " ") (map itemText xs) ++ (41 ∷ ys));
+      params = length ys;
+      end = length ys;
+    }
+
+-- a value is read back
+value-back : (v : Value) (ys : List ℕ) → GoodValue v → Ends ys → valueOf (valueText v ++ ys) ≡ parsed (placedIn v ys) ys
+unfolding valueText placedIn valueOf loneOf listOf closedOf pick next after headOf
+value-back (one x) ys g e = simp (item-head x ys g 40 refl refl, bare-back x ys g e, params-none ys (e .params))
+value-back (many xs) ys g e = simp (append-assoc, inner-back xs ys g, params-none ys (e .params))
+
+-- where a member stands
+unfoldable pub memberIn : Plain → List ℕ → Member
+memberIn m ys = record { key = m .key; placed = placedIn (m .value) ys }
+
+-- a member is read back
+member-back : (m : Plain) (ys : List ℕ) → GoodMember m → Ends ys → memberOf (memberText m ++ ys) ≡ parsed (memberIn m ys) ys
+unfolding memberText memberIn memberOf assignedOf pick next after mapped headOf
+member-back m ys g e = simp (append-assoc, key-back (m .key) (61 ∷ (valueText (m .value) ++ ys)) (g .key) refl, value-back (m .value) ys (g .value) e)
+
+-- the first byte of a member starts a key
+member-head : (m : Plain) (ys : List ℕ) → GoodMember m → (c : ℕ) → isKeyStart c ≡ false → eqb (headOf (memberText m ++ ys)) c ≡ false
+unfolding memberText headIs
+member-head m ys g c h =
+    simp (append-assoc, starts-on isKeyStart (m .key) (61 ∷ (valueText (m .value) ++ ys)) (g .key .starts) refl) (differs isKeyStart (headOf (m .key)) c (g .key .starts) h)
+
+member-no-blank : (m : Plain) (ys : List ℕ) → GoodMember m → isBlank (headOf (memberText m ++ ys)) ≡ false
+member-no-blank m ys g = simp (member-head m ys g 32 refl, member-head m ys g 9 refl)
+
+-- a text with a first byte is not empty
+full : (l : List ℕ) → eqb (headOf l) 0 ≡ false → isEmpty l ≡ false
+unfolding headOf isEmpty
+full [] e = e
+full (x ∷ xs) e = refl
+
+-- the last member, and one that another follows
+dict-last : (m : Plain) → GoodMember m → dictTurn (memberText m ++ []) ≡ done (memberIn m [] ∷ []) []
+unfolding dictTurn partedOf going skip past pick isEmpty headOf
+dict-last m g = simp (member-back m [] g (record { token = refl; params = refl }))
+
+dict-more : (m k : Plain) (ys : List ℕ) → GoodMember m → GoodMember k → dictTurn (memberText m ++ (44 ∷ 32 ∷ (memberText k ++ ys))) ≡ more (memberIn m (44 ∷ 32 ∷ (memberText k ++ ys)) ∷ []) (memberText k ++ ys)
+unfolding dictTurn partedOf going skip next past pick isEmpty headOf
+dict-more m k ys g h =
+    let l : List ℕ = memberText k ++ ys in
+    simp (member-back m (44 ∷ 32 ∷ l) g (record { token = refl; params = refl }), every-past isBlank [] l (unfold every in refl) (member-no-blank k ys h), full l (member-head k ys h 0 refl))
+
+-- the members past the first
+abbrev followingMembers : List Plain → List ℕ
+followingMembers ms = eachAfter (text ", ") (map memberText ms)
+
+-- where the members stand that are written
+unfoldable pub placedAll : List Plain → List Member
+placedAll [] = []
+placedAll (m ∷ ms) = memberIn m (followingMembers ms) ∷ placedAll ms
+
+-- the turns from a member on
+dict-turns : (m : Plain) (ms : List Plain) (n : ℕ) → GoodMember m → AllGood ms → length ms < n → turns dictTurn n (memberText m ++ followingMembers ms) ≡ parsed (placedAll (m ∷ ms)) []
+unfolding eachAfter placedAll turns onStep adding
+dict-turns m ms zero g a h = absurd (omega arith)
+dict-turns m [] (suc n) g a h = simp (dict-last m g)
+dict-turns m (k ∷ ms) (suc n) g (and h a) u = simp (dict-more m k (followingMembers ms) g h, dict-turns k ms n h a (omega arith))
+
+-- what is written is a dictionary, with its members at these places
+pub written-placed : (ms : List Plain) → AllGood ms → dictionary (written ms) ≡ some (placedAll ms)
+unfolding written joinedBy placedAll readAll dataOf skip past pick isEmpty
+written-placed [] a = refl
+written-placed (m ∷ ms) (and g a) =
+    let ys : List ℕ = followingMembers ms in
+    simp
+    (every-past isSpace [] (memberText m ++ ys) (unfold every in refl) (member-head m ys g 32 refl), full (memberText m ++ ys) (member-head m ys g 0 refl), dict-turns m ms (suc (length (memberText m ++ ys))) g a (simp length-append (omega (arith, length-map ms memberText, each-long 44 (32 ∷ []) (map memberText ms)))))
+
+-- without its places, a member is the one that was written
+placed-value : (v : Value) (ys : List ℕ) → placedIn v ys .value ≡ v
+unfolding placedIn
+placed-value (one x) ys = refl
+placed-value (many xs) ys = refl
+
+placed-plain : (ms : List Plain) → plains (placedAll ms) ≡ ms
+unfolding placedAll memberIn plains
+placed-plain [] = refl
+placed-plain (m ∷ ms) = simp (placed-value (m .value) (followingMembers ms), placed-plain ms)
+
+-- what is written is a dictionary
+pub written-dictionary : (ms : List Plain) → AllGood ms → isSome (dictionary (written ms)) ≡ true
+unfolding isSome
+written-dictionary ms a = rw (written-placed ms a)
+
+-- members that are written are read back
+pub written-back : (ms : List Plain) → AllGood ms → members (written ms) ≡ some ms
+unfolding plainly
+written-back ms a = rw (written-placed ms a, placed-plain ms)

@@ -1,0 +1,105 @@
+-- Examples of what is written and read back. Assumes nothing.
+use Prim.Native.Nat.{ℕ}
+use mathlib.Core.Path.{_≡_, refl}
+use mathlib.Core.List.{List, [], _∷_}
+use mathlib.Core.Option.{some, none}
+use native.Mathlib.Omega.{arith}
+use Rattle.ascii.specs.Bytes.{pick}
+use Rattle.ascii.specs.Literals.{text}
+use Rattle.ascii.specs.Texts.{every}
+use Rattle.ascii.specs.Reading.{headOf, headIs, isEmpty, next, skip, letLen, runOf, past, after, mapped, going, adding, onStep, turns}
+use Rattle.items.specs.Items.{keyOf, tokenOf, booleanOf, bytesOf, fractionOf, unsignedOf, numberOf, stringTurn, stringOf, bareOf, paramOf, paramTurn, paramsOf, itemOf}
+use Rattle.items.specs.Items.Item.{token, string, other}
+use Rattle.dictionaries.specs.Dictionaries.{Plain, members, innerTurn, innerOf, closedOf, listOf, loneOf, bareKey, valueOf, assignedOf, memberOf, partedOf, dictTurn, readAll, dataOf, plains, plainly}
+use Rattle.dictionaries.specs.Dictionaries.Value.{one, many}
+use Rattle.dictionaries.specs.Written.{eachAfter, joinedBy, itemText, valueText, memberText, written, GoodKey, GoodItem, AllGood}
+use Rattle.dictionaries.specs.Written.All.{empty, and}
+use Rattle.dictionaries.proofs.Back.{written-back}
+
+-- no members: the empty text
+none-written : written [] ≡ []
+unfolding written joinedBy
+none-written = refl
+
+none-back : members [] ≡ some []
+unfolding written joinedBy
+none-back = written-back [] empty
+
+-- three members, their text, and that it is read back
+abbrev three : List Plain
+three =
+    record { key = text "camera"; value = many (token (text "self") ∷ string (text "https://b.example") ∷ []) }
+    ∷ record { key = text "forms"; value = one (token (text "*")) }
+    ∷ record { key = text "usb"; value = many (token (text "self") ∷ []) }
+    ∷ []
+
+three-written : written three ≡ text "camera=(self \"https://b.example\"), forms=*, usb=(self)"
+unfolding written joinedBy eachAfter itemText valueText memberText
+three-written = refl
+
+self-good : GoodItem (token (text "self"))
+unfolding headIs headOf every
+self-good = record { starts = refl; bytes = refl }
+
+any-good : GoodItem (token (text "*"))
+unfolding headIs headOf every
+any-good = record { starts = refl; bytes = refl }
+
+origin-good : GoodItem (string (text "https://b.example"))
+unfolding every
+origin-good = refl
+
+three-good : AllGood three
+unfolding headIs headOf every
+three-good =
+    and (record { key = record { starts = refl; bytes = refl }; value = and self-good (and origin-good empty) })
+    (and (record { key = record { starts = refl; bytes = refl }; value = any-good })
+    (and (record { key = record { starts = refl; bytes = refl }; value = and self-good empty }) empty))
+
+three-back : members (text "camera=(self \"https://b.example\"), forms=*, usb=(self)") ≡ some three
+three-back = rw three-written at (written-back three three-good)
+
+-- empty lists, an empty string, and a repeated key: `a=(), *=(""), a=b`
+abbrev small : List Plain
+small =
+    record { key = text "a"; value = many [] }
+    ∷ record { key = text "*"; value = many (string [] ∷ []) }
+    ∷ record { key = text "a"; value = one (token (text "b")) }
+    ∷ []
+
+small-written : written small ≡ text "a=(), *=(\"\"), a=b"
+unfolding written joinedBy eachAfter itemText valueText memberText
+small-written = refl
+
+small-back : members (written small) ≡ some small
+unfolding headIs headOf every
+small-back =
+    written-back small
+    (and (record { key = record { starts = refl; bytes = refl }; value = empty })
+    (and (record { key = record { starts = refl; bytes = refl }; value = and refl empty })
+    (and (record { key = record { starts = refl; bytes = refl }; value = record { starts = refl; bytes = refl } }) empty)))
+
+-- what cannot be written: no key and no token is empty, a key has no upper-case letter, a string's text no quote, and no other item is written
+no-empty-key : GoodKey [] → ⊥
+unfolding headIs headOf
+no-empty-key g = let z : _≡_ {A = ℕ} 0 1 = cc (g .starts) in omega arith
+
+no-upper-key : GoodKey (text "usB") → ⊥
+unfolding every
+no-upper-key g = let z : _≡_ {A = ℕ} 0 1 = cc (g .bytes) in omega arith
+
+no-empty-token : GoodItem (token []) → ⊥
+unfolding headIs headOf
+no-empty-token g = let z : _≡_ {A = ℕ} 0 1 = cc (g .starts) in omega arith
+
+no-quote-inside : GoodItem (string (text "a\"b")) → ⊥
+unfolding every
+no-quote-inside g = let z : _≡_ {A = ℕ} 0 1 = cc g in omega arith
+
+no-other : GoodItem other → ⊥
+no-other g = g
+
+-- a string with a quote inside is not read back: `a=("b"c")`
+quote-not-back : members (written (record { key = text "a"; value = many (string (text "b\"c") ∷ []) } ∷ [])) ≡ none
+unfolding pick headOf headIs isEmpty next skip letLen runOf past after mapped going adding onStep turns keyOf tokenOf booleanOf bytesOf fractionOf unsignedOf numberOf stringTurn stringOf bareOf paramOf paramTurn paramsOf itemOf innerTurn innerOf closedOf listOf loneOf bareKey valueOf assignedOf memberOf partedOf dictTurn readAll dataOf plains plainly written joinedBy eachAfter itemText valueText memberText
+quote-not-back = refl
