@@ -1,0 +1,2 @@
+-- Examples come last.
+use Prim.Native.Nat.{ℕ}
