@@ -105,7 +105,7 @@ pub data Frame : Type 0 where
   frame : Bool → Bool → String → Bool → Frame
 
 abbrev sandboxRight : Frame → Bool
-sandboxRight (frame container stands s yes) = sameBool yes (isSandboxed container (sandboxOf stands (text s)))
+sandboxRight (frame container stands s expected) = sameBool expected (isSandboxed container (sandboxOf stands (text s)))
 
 frames : List Frame
 frames =
@@ -140,8 +140,8 @@ someAllows (some l) container declared o = allows l container declared o
 someAllows none container declared o = false
 
 abbrev askedRight : Asked → Bool
-askedRight (asked allow sandboxed src arriving yes) =
-    sameBool yes (someAllows (containerPolicy (text allow) false 0) (originAt false "") (originAt sandboxed src) (originAt false arriving))
+askedRight (asked allow sandboxed src arriving expected) =
+    sameBool expected (someAllows (containerPolicy (text allow) false 0) (originAt false "") (originAt sandboxed src) (originAt false arriving))
 
 asks : List Asked
 asks =
