@@ -63,9 +63,9 @@ end-part s at p m st f =
     let k : at + (length p - length m) ≡ at + length (f .before) = omega arith in
     let u : at + length p - (at + length (f .before)) ≡ length m = omega arith in
     let d : drop (at + length (f .before)) s ≡ m ++ st .behind =
-        sym (drop-drop (length (f .before)) at s)
-        ∙ (ap (drop (length (f .before))) (st .is ∙ (ap (λ (z : List ℕ). z ++ st .behind) (f .is) ∙ append-assoc (f .before) m (st .behind)))
-        ∙ drop-at (f .before) (m ++ st .behind) (length (f .before)) refl)
+    sym (drop-drop (length (f .before)) at s)
+    ∙ (ap (drop (length (f .before))) (st .is ∙ (ap (λ (z : List ℕ). z ++ st .behind) (f .is) ∙ append-assoc (f .before) m (st .behind)))
+    ∙ drop-at (f .before) (m ++ st .behind) (length (f .before)) refl)
     in
     let a : at + length (f .before) ≤ at + length p = omega arith in
     rw k (sym (part-in s (at + length (f .before)) (at + length p) a (st .within)) ∙ rw (u, d) (take-at m (st .behind) (length m) refl))

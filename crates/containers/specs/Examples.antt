@@ -79,9 +79,9 @@ rows =
     ∷ everything "Fullscreen 'none'" true 4
     ∷ absent "" true 0
     ∷ absent "" false 4
-    ∷ absent "camera\x0busb" false 0
-    ∷ list "camera 'self'\x0b" false 0 false false []
-    ∷ list "\tcamera\n\x0c\r'self' 'src'" false 0 true true []
+    ∷ absent "camera\u{b}usb" false 0
+    ∷ list "camera 'self'\u{b}" false 0 false false []
+    ∷ list "\tcamera\n\u{c}\r'self' 'src'" false 0 true true []
     ∷ absent "Camera" false 0
     ∷ absent "camera,usb" false 0
     ∷ absent "camera,usb" false 16
@@ -112,8 +112,8 @@ frames =
     frame false false "" false
     ∷ frame false true "" true
     ∷ frame false true "allow-scripts" true
-    ∷ frame false true "allow-scripts\x0cAllow-Same-Origin" false
-    ∷ frame false true "allow-same-origin\x0b" true
+    ∷ frame false true "allow-scripts\u{c}Allow-Same-Origin" false
+    ∷ frame false true "allow-same-origin\u{b}" true
     ∷ frame false true "allow-same-origin;" true
     ∷ frame false false "x" false
     ∷ frame true false "" true

@@ -110,7 +110,13 @@ fn meaning(w: &[u8]) -> WordMeaning
 }
 
 // Whether a list of one word admits an origin.
-fn word_admits(w: &[u8], container_same: bool, declared_same: bool, t: &[u8], o: OriginRange) -> bool
+fn word_admits(
+    w: &[u8],
+    container_same: bool,
+    declared_same: bool,
+    t: &[u8],
+    o: OriginRange,
+) -> bool
     ensures { λ r. ⌜ r ≡ listAdmits (listOf (now (w .entry) ∷ [])) «container_same» «declared_same» (originIn (now (t .entry)) o) ⌝ }
 {
     match meaning(w) {
@@ -123,7 +129,13 @@ fn word_admits(w: &[u8], container_same: bool, declared_same: bool, t: &[u8], o:
 }
 
 // Whether the list that the words of a text make admits an origin.
-fn words_admit(s: &[u8], container_same: bool, declared_same: bool, t: &[u8], o: OriginRange) -> bool
+fn words_admit(
+    s: &[u8],
+    container_same: bool,
+    declared_same: bool,
+    t: &[u8],
+    o: OriginRange,
+) -> bool
     ensures { λ r. ⌜ r ≡ listAdmits (listOf (words (now (s .entry)))) «container_same» «declared_same» (originIn (now (t .entry)) o) ⌝ }
 {
     let mut i: usize = 0;
@@ -142,7 +154,14 @@ fn words_admit(s: &[u8], container_same: bool, declared_same: bool, t: &[u8], o:
 }
 
 // Whether an entry's list admits an origin; the marks: it is the container's, it is the declared one.
-pub fn entry_admits(allow: &[u8], e: WordsRange, container_same: bool, declared_same: bool, t: &[u8], o: OriginRange) -> bool
+pub fn entry_admits(
+    allow: &[u8],
+    e: WordsRange,
+    container_same: bool,
+    declared_same: bool,
+    t: &[u8],
+    o: OriginRange,
+) -> bool
     ensures { λ r. ⌜ r ≡ listAdmits (entryList (wordsIn (now (allow .entry)) e)) «container_same» «declared_same» (originIn (now (t .entry)) o) ⌝ }
 {
     let list = ascii::part(allow, e.from, e.to);
@@ -150,7 +169,7 @@ pub fn entry_admits(allow: &[u8], e: WordsRange, container_same: bool, declared_
     if first < list.len() {
         return words_admit(list, container_same, declared_same, t, o);
     }
-    declared_same
+    declared_same // no further words
 }
 
 // What a frame's allow attribute and allowfullscreen say for a feature.
