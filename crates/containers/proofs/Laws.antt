@@ -17,10 +17,11 @@ use Rattle.origins.specs.Origins.{Origin, TupleOrigin, OriginSaid, originOf}
 use Rattle.origins.specs.Origins.Origin.{tuple, fresh}
 use Rattle.origins.specs.Origins.OriginSaid.{saysEmpty, saysNull, saysTuple, noOrigin}
 use Rattle.origins.specs.Answers.{originAs, tupleRange, tupleIn}
+use Rattle.origins.specs.Expressions.{SourceExpression}
 use Rattle.origins.specs.Matching.{sameOrigin}
-use Rattle.origins.proofs.Laws.{tuple-range}
+use Rattle.origins.proofs.Laws.{tuple-range, fresh-right, admits-fresh}
 use Rattle.containers.specs.Attributes.{cutAt, words, isSemicolon, entries, isThe, isFor, furtherWords, lastFor, entryOf}
-use Rattle.containers.specs.Allowlists.{Allowlist, meaningOf, isStar, hasStar, listOf, listOr, declaredOnly, entryList, listAdmits, allows}
+use Rattle.containers.specs.Allowlists.{Allowlist, meaningOf, isStar, hasStar, listOf, listOr, declaredOnly, entryList, anyAdmits, listAdmits, allows}
 use Rattle.containers.specs.Allowlists.Allowlist.{all, listed}
 use Rattle.containers.specs.Policies.{fullscreen, entryElse, allowedFullscreen, containerPolicy}
 use Rattle.containers.specs.Sandboxes.{sandboxOf, sandboxes, isSandboxed, srcOrigin, unless, declaredOrigin}
@@ -71,6 +72,23 @@ module _ (s : List ℕ) (mark : Bool) (n : ℕ) (r : ContainerPolicy) (is : r �
 pub all-allows : (container declared o : Origin) → allows all container declared o ≡ true
 unfolding listAdmits
 all-allows container declared o = refl
+
+-- only `*` admits a fresh origin
+fresh-sources : (es : List SourceExpression) → anyAdmits es fresh ≡ false
+unfolding anyAdmits
+fresh-sources [] = refl
+fresh-sources (e ∷ es) = rw (admits-fresh e, fresh-sources es)
+
+pub fresh-all : (l : Allowlist) (container declared : Origin) → allows l container declared fresh ≡ true → l ≡ all
+unfolding listAdmits
+fresh-all all container declared e = refl
+fresh-all (listed a b es) container declared e = go a b (rw (fresh-right container, fresh-right declared, fresh-sources es) at e)
+  where
+    go : (x y : Bool) → x && false || y && false || false ≡ true → listed a b es ≡ all
+    go true true f = absurd (let z : _≡_ {A = ℕ} 0 1 = cc in omega arith)
+    go true false f = absurd (let z : _≡_ {A = ℕ} 0 1 = cc in omega arith)
+    go false true f = absurd (let z : _≡_ {A = ℕ} 0 1 = cc in omega arith)
+    go false false f = absurd (let z : _≡_ {A = ℕ} 0 1 = cc in omega arith)
 
 -- "A word `*` makes the list `*`"
 pub star-all : (bare : Allowlist) (ws : List (List ℕ)) → hasStar ws ≡ true → listOr bare ws ≡ all

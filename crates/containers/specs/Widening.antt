@@ -2,9 +2,12 @@
 use Prim.Native.Nat.{ℕ, _<_}
 use mathlib.Core.Path.{_≡_}
 use mathlib.Core.List.{List, _∷_, _++_}
-use mathlib.Core.Bool.{Bool, true}
+use mathlib.Core.Bool.{Bool, true, not, _&&_}
 use mathlib.Core.Option.{Option, some, none}
 use lib.ListN.{length}
+use Rattle.ascii.specs.Bytes.{isWhite}
+use Rattle.ascii.specs.Reading.{isEmpty}
+use Rattle.ascii.specs.Texts.{every}
 use Rattle.origins.specs.Origins.{Origin}
 use Rattle.containers.specs.Attributes.{entries}
 use Rattle.containers.specs.Allowlists.{Allowlist, allows}
@@ -32,3 +35,7 @@ pub record Wider (l m : Allowlist) : Type 0 where
 pub data AllowsMore : Option Allowlist → Option Allowlist → Type 0 where
   neither : AllowsMore none none
   both : {l m : Allowlist} → Wider l m → AllowsMore (some l) (some m)
+
+-- a text that can be a word: of at least one byte, none of them white and none that ends a piece
+unfoldable pub isWord : (ℕ → Bool) → List ℕ → Bool
+isWord ends w = not (isEmpty w) && every (λ b. not (isWhite b)) w && every (λ b. not (ends b)) w
