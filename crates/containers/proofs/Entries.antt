@@ -1,12 +1,11 @@
 -- The entry of a feature, piece by piece. Assumes nothing.
 use mathlib.Core.Path.{_≡_, refl, ap, _∙_, sym}
-use Prim.Native.Nat.{ℕ, suc, _+_, _-_, _≤_, _<_, min}
+use Prim.Native.Nat.{ℕ, _+_, _-_, _≤_, _<_, min}
 use mathlib.Core.List.{List, [], _∷_}
-use mathlib.Core.Bool.{Bool, true, false, not, _&&_}
-use mathlib.Core.Option.{Option, some, none}
+use mathlib.Core.Bool.{Bool, true, false, _&&_}
 use native.Mathlib.Omega.{arith}
 use native.Mathlib.Numerals.{add-one}
-use lib.ListN.{length, getD, take, drop, drop-of-length-le, length-drop, length-take}
+use lib.ListN.{length, take, drop, drop-of-length-le, length-drop, length-take}
 use lib.Seq.{drop-cons}
 use lib.Dec.{eqb, leb}
 use borrow.Author.Tests.{eq-eqb, ne-eqb, leb-true, leb-false}
@@ -27,7 +26,6 @@ use Rattle.containers.specs.Answers.{isWordByte, pastFirst, rangeAt, pie
 use Rattle.containers.specs.declared.WordsRange.{WordsRange}
 use Rattle.containers.specs.declared.EntryFound.{EntryFound}
 use Rattle.containers.specs.declared.EntryFound.the-variants as entry
-use Rattle.containers.specs.declared.ContainerPolicy.{ContainerPolicy}
 use Rattle.containers.specs.declared.ContainerPolicy.the-variants as policy
 use Rattle.containers.proofs.Words.{restCut, cut-run, words-none, first-word}
 

@@ -1,15 +1,15 @@
 -- The laws of a frame's attributes, for the crates above: nothing there opens a definition of this crate. Assumes nothing.
 use mathlib.Core.Path.{_≡_, refl, ap, _∙_, sym}
-use Prim.Native.Nat.{ℕ, _+_, _≤_, _<_}
+use Prim.Native.Nat.{ℕ, _+_, _<_}
 use mathlib.Core.List.{List, [], _∷_, _++_}
-use mathlib.Core.Bool.{Bool, true, false, not, _&&_, _||_}
+use mathlib.Core.Bool.{Bool, true, false, _&&_, _||_}
 use mathlib.Core.Option.{Option, some, none}
 use native.Mathlib.Omega.{arith}
 use lib.ListN.{length}
 use lib.Dec.{eqb}
 use borrow.Author.Tests.{eq-eqb, ne-eqb}
 use Rattle.ascii.specs.Bytes.{pick}
-use Rattle.ascii.specs.Texts.{sameBytes, sameBy}
+use Rattle.ascii.specs.Texts.{sameBytes}
 use Rattle.ascii.proofs.Texts.{bytes-same, same-bytes}
 use Rattle.features.specs.Features.{featureCount, nameOf, featureOf}
 use Rattle.features.proofs.Laws.{found, found-name}
@@ -18,13 +18,15 @@ use Rattle.origins.specs.Origins.Origin.{tuple, fresh}
 use Rattle.origins.specs.Origins.OriginSaid.{saysEmpty, saysNull, saysTuple, noOrigin}
 use Rattle.origins.specs.Answers.{originAs, tupleRange, tupleIn}
 use Rattle.origins.specs.Expressions.{SourceExpression}
+use Rattle.origins.specs.declared.OriginText.{OriginText}
+use Rattle.origins.specs.declared.TupleRange.{TupleRange}
 use Rattle.origins.specs.Matching.{sameOrigin}
 use Rattle.origins.proofs.Laws.{tuple-range, fresh-right, admits-fresh}
 use Rattle.containers.specs.Attributes.{cutAt, words, isSemicolon, entries, isThe, isFor, furtherWords, lastFor, entryOf}
-use Rattle.containers.specs.Allowlists.{Allowlist, meaningOf, isStar, hasStar, listOf, listOr, declaredOnly, entryList, anyAdmits, listAdmits, allows}
+use Rattle.containers.specs.Allowlists.{Allowlist, hasStar, listOf, listOr, declaredOnly, entryList, anyAdmits, listAdmits, allows}
 use Rattle.containers.specs.Allowlists.Allowlist.{all, listed}
 use Rattle.containers.specs.Policies.{fullscreen, entryElse, allowedFullscreen, containerPolicy}
-use Rattle.containers.specs.Sandboxes.{sandboxOf, sandboxes, isSandboxed, srcOrigin, unless, declaredOrigin}
+use Rattle.containers.specs.Sandboxes.{isSandboxed, srcOrigin, unless, declaredOrigin}
 use Rattle.containers.specs.Answers.{wordsIn, entryIn, entryAt, policyIn, policyElse, policyAt, declaredIn, declaredBy}
 use Rattle.containers.specs.Widening.{OneWordMore, Wider, AllowsMore}
 use Rattle.containers.specs.Widening.AllowsMore.{neither, both}
@@ -132,6 +134,31 @@ declared-said s container sandboxed noOrigin f = refl
 
 pub declared-says : (src : List ℕ) (container : Origin) (sandboxed : Bool) → declaredIn src container (declaredBy sandboxed (originAs (originOf src))) ≡ declaredOrigin sandboxed (originOf src) container
 declared-says src container sandboxed = declared-said src container sandboxed (originOf src) (λ o e. tuple-range src o e)
+
+-- the same, answer by answer
+module _ (s : List ℕ) (container : Origin) (sandboxed : Bool) (x : OriginText) (read : x ≡ originAs (originOf s)) (r : DeclaredOrigin) (is : r ≡ declaredBy sandboxed x) where
+  answered : declaredOrigin sandboxed (originOf s) container ≡ declaredIn s container r
+  answered = sym (declared-says s container sandboxed) ∙ ap (declaredIn s container) (ap (declaredBy sandboxed) (sym read) ∙ sym is)
+
+  pub declared-fresh : r ≡ declared.Fresh → declaredOrigin sandboxed (originOf s) container ≡ some fresh
+  declared-fresh k = answered ∙ ap (declaredIn s container) k
+
+  pub declared-container : r ≡ declared.Container → declaredOrigin sandboxed (originOf s) container ≡ some container
+  declared-container k = answered ∙ ap (declaredIn s container) k
+
+  pub declared-src : (q : TupleRange) → r ≡ declared.Src q → declaredOrigin sandboxed (originOf s) container ≡ some (tuple (tupleIn s q))
+  declared-src q k = answered ∙ ap (declaredIn s container) k
+
+  pub declared-bad : r ≡ declared.NotAnOrigin → declaredOrigin sandboxed (originOf s) container ≡ none
+  declared-bad k = answered ∙ ap (declaredIn s container) k
+
+-- there is a declared origin wherever src is an origin text
+pub good-declared : (sandboxed : Bool) (said : OriginSaid) (container : Origin) → (said ≡ noOrigin → ⊥) → (o : Origin) × (declaredOrigin sandboxed said container ≡ some o)
+unfolding declaredOrigin srcOrigin unless
+good-declared sandboxed saysEmpty container h = (pick sandboxed fresh container, refl)
+good-declared sandboxed saysNull container h = (pick sandboxed fresh fresh, refl)
+good-declared sandboxed (saysTuple t) container h = (pick sandboxed fresh (tuple t), refl)
+good-declared sandboxed noOrigin container h = absurd (h refl)
 
 -- the declared origin of a sandboxed frame is fresh, whatever src says
 pub sandboxed-fresh : (said : OriginSaid) (container o : Origin) → declaredOrigin true said container ≡ some o → o ≡ fresh

@@ -7,7 +7,7 @@ use mathlib.Core.Option.{Option, some, none}
 use native.Mathlib.Omega.{arith}
 use lib.ListN.{length, getD, take, drop, length-drop}
 use borrow.Author.Tests.{not-true, not-false}
-use Rattle.ascii.specs.Bytes.{pick, isWhite, lower}
+use Rattle.ascii.specs.Bytes.{pick, isWhite}
 use Rattle.ascii.specs.Classes.{inClass}
 use Rattle.ascii.specs.declared.Class.the-variants.{White, Word}
 use Rattle.ascii.specs.Literals.{text}
@@ -25,7 +25,7 @@ use Rattle.origins.specs.declared.OriginText.the-variants as said
 use Rattle.origins.specs.declared.TupleRange.{TupleRange}
 use Rattle.origins.proofs.Laws.{expression-range}
 use Rattle.containers.specs.Attributes.{words}
-use Rattle.containers.specs.Allowlists.{Allowlist, Meaning, sourceMeaning, meaningOf, isStar, isSelf, isSrc, withSource, hasStar, hasSelf, hasSrc, sourcesOf, listOf, listOr, declaredOnly, entryList, anyAdmits, listAdmits}
+use Rattle.containers.specs.Allowlists.{Meaning, sourceMeaning, meaningOf, isStar, isSelf, isSrc, withSource, hasStar, hasSelf, hasSrc, sourcesOf, listOf, listOr, entryList, anyAdmits, listAdmits}
 use Rattle.containers.specs.Allowlists.Allowlist.{all, listed}
 use Rattle.containers.specs.Allowlists.Meaning.{star, self, src, source, nothing}
 use Rattle.containers.specs.Sandboxes.{sandboxOf, hasKeyword, allowSameOrigin, sandboxes, isSandboxed}

@@ -1,17 +1,17 @@
 -- Pieces and words, place by place. Assumes nothing.
 use mathlib.Core.Path.{_≡_, refl, ap, _∙_, sym}
 use Prim.Native.Nat.{ℕ, suc, _+_, _-_, _≤_, _<_, min}
-use mathlib.Core.List.{List, [], _∷_, _++_}
+use mathlib.Core.List.{List, [], _∷_}
 use mathlib.Core.Bool.{Bool, true, false, not}
-use mathlib.Core.Option.{Option, some, none}
+use mathlib.Core.Option.{none}
 use native.Mathlib.Omega.{arith}
 use native.Mathlib.Numerals.{add-one}
-use lib.ListN.{length, getD, take, drop, drop-of-length-le, length-drop, length-take}
+use lib.ListN.{length, getD, take, drop, drop-of-length-le}
 use lib.Seq.{drop-cons}
 use Rattle.ascii.specs.Bytes.{pick, isWhite}
 use Rattle.ascii.specs.Classes.{inClass}
 use Rattle.ascii.specs.declared.Class.the-variants.{Word}
-use Rattle.ascii.specs.Reading.{headOf, isEmpty, runOf, past}
+use Rattle.ascii.specs.Reading.{isEmpty, runOf, past}
 use Rattle.ascii.specs.Texts.{sameBy}
 use Rattle.ascii.proofs.Reading.{run-from, run-part, head-in}
 use Rattle.features.specs.Features.{features, names, placeFrom, featureOf}

@@ -1,7 +1,7 @@
 -- 01, "Header and attribute": an attribute as pieces and words.
 use Prim.Native.Nat.{ℕ}
 use mathlib.Core.List.{List, [], _∷_, map}
-use mathlib.Core.Bool.{Bool, true, false}
+use mathlib.Core.Bool.{Bool, false}
 use mathlib.Core.Option.{Option, some, none}
 use lib.Dec.{eqb}
 use Rattle.ascii.specs.Bytes.{pick, isWhite}

@@ -12,12 +12,12 @@ use Rattle.ascii.specs.Reading.{headOf, isEmpty, next, runOf, past}
 use Rattle.features.specs.Features.{features, names, placeFrom, featureOf}
 use Rattle.origins.specs.Hosts.{longer, labels, isLabel, isHost}
 use Rattle.origins.specs.Ports.{decimalFrom, isNumber, isPortPart, portPartOf, leadsZero, isPort, originPort}
-use Rattle.origins.specs.Origins.{Origin, OriginSaid, startsWith, originOf, tupleOf, withPort}
+use Rattle.origins.specs.Origins.{Origin, startsWith, originOf, tupleOf, withPort}
 use Rattle.origins.specs.Origins.Origin.{fresh}
 use Rattle.origins.specs.Expressions.{SourceExpression, hostPartOf, withParts, hostSourceOf, startsLowered, expressionOf}
 use Rattle.origins.specs.Matching.{endsIn, portAdmits, hostAdmits, admitsTuple, admits, sameTuple, sameOrigin}
 use Rattle.origins.specs.NormalForms.{expressionText, lastDigits, portPartText, expressionPartsText}
-use Rattle.containers.specs.Attributes.{before, cutAt, nonEmpty, words, isSemicolon, entries, isFor, furtherWords, lastFor, entryOf}
+use Rattle.containers.specs.Attributes.{before, cutAt, nonEmpty, words, entries, isFor, furtherWords, lastFor, entryOf}
 use Rattle.containers.specs.Allowlists.{Allowlist, sourceMeaning, meaningOf, withSource, hasStar, hasSelf, hasSrc, sourcesOf, listOf, listOr, anyAdmits, listAdmits, allows}
 use Rattle.containers.specs.Allowlists.Allowlist.{all, listed}
 use Rattle.containers.specs.Policies.{fullscreen, entryElse, allowedFullscreen, containerPolicy}
