@@ -24,7 +24,9 @@ use Rattle.dictionaries.specs.declared.MemberFound.the-variants as found
 use Rattle.dictionaries.proofs.Laws.{dictionary-members}
 use Rattle.declarations.specs.Allowlists.{Allowlist, meaningOf, hasStar, hasSelf, withSource, sourcesOf, anyAdmits, allowlist, listAdmits}
 use Rattle.declarations.specs.Declarations.{isMalformed}
-use Rattle.declarations.specs.Settings.{itemsAt, settingAs, undeclared, declaredBy, loneSetting, memberSetting, settingOf, settingsFrom, someAdmits}
+use Rattle.declarations.specs.Settings.{itemsAt, settingAs, undeclared, declaredBy, loneSetting, memberSetting, settingOf, settingsFrom, someAdmits, admissionAs}
+use Rattle.declarations.specs.declared.Admission.{Admission}
+use Rattle.declarations.specs.declared.Admission.the-variants as admission
 use Rattle.declarations.specs.declared.Marks.{Marks}
 use Rattle.declarations.specs.declared.Cursor.{Cursor}
 use Rattle.declarations.specs.declared.Cursor.the-variants as cursor
@@ -46,23 +48,23 @@ module _ (s : List ℕ) (c : Cursor) (o : Origin) where
 
 -- whether a setting admits, test by test
 module _ (s : List ℕ) (d : Setting) (same : Bool) (o : Origin) where
-  pub not-declared : not (d .declared) ≡ true → false ≡ someAdmits (settingAs s d) same o
+  pub not-declared : not (d .declared) ≡ true → admission.Undeclared ≡ admissionAs (someAdmits (settingAs s d) same o)
   unfolding settingAs someAdmits pick
   not-declared k = rw (not-true (d .declared) k)
 
   module _ (k : not (d .declared) ≡ false) where
-    pub all-admits : d .all ≡ true → true ≡ someAdmits (settingAs s d) same o
+    pub all-admits : d .all ≡ true → admission.Admitted ≡ admissionAs (someAdmits (settingAs s d) same o)
     unfolding settingAs someAdmits allowlist listAdmits pick
     all-admits a = rw (not-false (d .declared) k, a)
 
     module _ (a : d .all ≡ false) where
-      pub own-admits : d .own && same ≡ true → true ≡ someAdmits (settingAs s d) same o
+      pub own-admits : d .own && same ≡ true → admission.Admitted ≡ admissionAs (someAdmits (settingAs s d) same o)
       unfolding settingAs someAdmits allowlist listAdmits pick
       own-admits w = rw (not-false (d .declared) k, a, w)
 
-      pub items-decide : d .own && same ≡ false → (b : Bool) → b ≡ anyAdmits (sourcesOf (itemsAt s (d .items))) o → b ≡ someAdmits (settingAs s d) same o
+      pub items-decide : d .own && same ≡ false → (b : Bool) (r : Admission) → r ≡ admissionAs (some b) → b ≡ anyAdmits (sourcesOf (itemsAt s (d .items))) o → r ≡ admissionAs (someAdmits (settingAs s d) same o)
       unfolding settingAs someAdmits allowlist listAdmits pick
-      items-decide w b h = rw (not-false (d .declared) k, a, w) h
+      items-decide w b r g h = rw (not-false (d .declared) k, a, w, ← h) g
 
 -- the setting of a list
 pub list-is : (s : List ℕ) (n : ℕ) (m : Marks) → m .all ≡ hasStar (itemsFrom s n) → m .own ≡ hasSelf (itemsFrom s n) → record { declared = true; all = m .all; own = m .own; items = cursor.List n } ≡ declaredBy s (cursor.List n)
@@ -110,3 +112,10 @@ settings-all s l i n a b e =
 pub malformed-is : (s : List ℕ) (b : Bool) → b ≡ isSome (dictionary s) → not b ≡ isMalformed s
 unfolding isMalformed
 malformed-is s b h = rw (h, dictionary-members s)
+
+-- an answer of admission
+pub admission-yes : (b : Bool) → b ≡ true → admission.Admitted ≡ admissionAs (some b)
+admission-yes b e = rw e
+
+pub admission-no : (b : Bool) → b ≡ false → admission.NotAdmitted ≡ admissionAs (some b)
+admission-no b e = rw e

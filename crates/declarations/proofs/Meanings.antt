@@ -5,6 +5,7 @@ use mathlib.Core.List.{List, [], _∷_}
 use mathlib.Core.Bool.{Bool, true, false, _||_}
 use mathlib.Core.Option.{Option, some, none}
 use native.Mathlib.Omega.{arith}
+use Rattle.ascii.proofs.Bytes.{or-false, or-true}
 use Rattle.ascii.specs.Bytes.{pick}
 use Rattle.ascii.specs.Literals.{text}
 use Rattle.ascii.specs.Texts.{sameBytes, partOf}
@@ -18,7 +19,8 @@ use Rattle.origins.specs.declared.Source.the-variants as answer
 use Rattle.origins.proofs.Laws.{expression-range}
 use Rattle.items.specs.Items.{Item}
 use Rattle.items.specs.Items.Item.{token, string, other}
-use Rattle.items.specs.Found.{itemBy, itemAs}
+use Rattle.items.specs.Found.{itemAs}
+use Rattle.items.proofs.Laws.{as-token, as-string, as-other}
 use Rattle.items.specs.declared.ItemKind.{ItemKind}
 use Rattle.items.specs.declared.ItemKind.the-variants as kind
 use Rattle.items.specs.declared.ItemRange.{ItemRange}
@@ -30,14 +32,6 @@ use Rattle.declarations.specs.declared.ItemMeaning.the-variants as meani
 use Rattle.declarations.specs.declared.Marks.{Marks}
 use Rattle.declarations.specs.declared.Cursor.the-variants as cursor
 use Rattle.declarations.specs.declared.Setting.{Setting}
-
-or-true : (b : Bool) → b || true ≡ true
-or-true true = refl
-or-true false = refl
-
-or-none : (b : Bool) → b || false ≡ b
-or-none true = refl
-or-none false = refl
 
 -- a token, test by test
 module _ (t : List ℕ) (a : Bool) (u : a ≡ sameBytes t (text "*")) where
@@ -68,16 +62,16 @@ string-nothing none r h k = refl
 -- an item by its kind
 module _ (s : List ℕ) (p : ItemRange) (t : List ℕ) (m : t ≡ partOf s (p .from) (p .to)) (r : ItemMeaning) where
   pub item-token : r ≡ meaningAs (tokenMeaning t) → p .kind ≡ kind.Token → r ≡ meaningAs (meaningOf (itemAs s p))
-  unfolding itemAs itemBy meaningOf
-  item-token h k = rw (k, ← m) h
+  unfolding meaningOf
+  item-token h k = rw (as-token s p k, ← m) h
 
   pub item-string : r ≡ meaningAs (sourceMeaning (expressionOf t)) → p .kind ≡ kind.String → r ≡ meaningAs (meaningOf (itemAs s p))
-  unfolding itemAs itemBy meaningOf
-  item-string h k = rw (k, ← m) h
+  unfolding meaningOf
+  item-string h k = rw (as-string s p k, ← m) h
 
 pub item-other : (s : List ℕ) (p : ItemRange) → p .kind ≡ kind.Other → meaning.Nothing ≡ meaningAs (meaningOf (itemAs s p))
-unfolding itemAs itemBy meaningOf
-item-other s p k = rw k
+unfolding meaningOf
+item-other s p k = rw (as-other s p k)
 
 -- the meaning that an answer tells
 module _ (x : Meaning) (r : ItemMeaning) (h : r ≡ meaningAs x) where
@@ -132,11 +126,13 @@ unfolding sourceMeaning
 string-is (some z) y e = let q : z ≡ y = cc in ap some q
 string-is none y e = absurd (let z : _≡_ {A = ℕ} 0 1 = cc in omega arith)
 
-kind-source : (k : ItemKind) (t : List ℕ) (y : SourceExpression) → meaningOf (itemBy k t) ≡ source y → expressionOf t ≡ some y
-unfolding itemBy meaningOf
-kind-source kind.Token t y e = absurd (token-no-source t y e)
-kind-source kind.String t y e = string-is (expressionOf t) y e
-kind-source kind.Other t y e = absurd (let z : _≡_ {A = ℕ} 0 1 = cc in omega arith)
+kind-source : (s : List ℕ) (p : ItemRange) (y : SourceExpression) (k : ItemKind) → p .kind ≡ k → meaningOf (itemAs s p) ≡ source y → expressionOf (partOf s (p .from) (p .to)) ≡ some y
+unfolding meaningOf
+kind-source s p y kind.Token k e = absurd (token-no-source (partOf s (p .from) (p .to)) y (rw (as-token s p k) at e))
+kind-source s p y kind.String k e = string-is (expressionOf (partOf s (p .from) (p .to))) y (rw (as-string s p k) at e)
+kind-source s p y kind.Other k e =
+    let f : nothing ≡ source y = rw (as-other s p k) at e in
+    absurd (let z : _≡_ {A = ℕ} 0 1 = cc in omega arith)
 
 -- whether an item admits an origin, by its meaning
 module _ (s : List ℕ) (p : ItemRange) (o : Origin) (r : ItemMeaning) (h : r ≡ meaningAs (meaningOf (itemAs s p))) where
@@ -157,9 +153,9 @@ module _ (s : List ℕ) (p : ItemRange) (o : Origin) (r : ItemMeaning) (h : r �
   admit-source e x b g m k =
       let t = told-source (meaningOf (itemAs s p)) r h e k in
       let y = t .0 in
-      let w : expressionOf x ≡ some y = rw m (kind-source (p .kind) (partOf s (p .from) (p .to)) y (unfold itemAs in (t .1))) in
+      let w : expressionOf x ≡ some y = rw m (kind-source s p y (p .kind) refl (t .1)) in
       let v : expressionIn x e ≡ y = ap (expressionIn x) (sym (t .2)) ∙ expression-range x y w in
-      rw (t .1, or-none (admits y o)) (rw v at g)
+      rw (t .1, or-false (admits y o)) (rw v at g)
 
 -- a lone item's setting, by its meaning
 module _ (s : List ℕ) (p : ItemRange) (r : ItemMeaning) (h : r ≡ meaningAs (meaningOf (itemAs s p))) where
@@ -175,20 +171,20 @@ module _ (s : List ℕ) (p : ItemRange) (r : ItemMeaning) (h : r ≡ meaningAs (
   unfolding loneSetting itemsAt hasStar hasSelf
   lone-source e k = rw (told-source (meaningOf (itemAs s p)) r h e k .1)
 
-  pub lone-nothing : (d : Setting) → d ≡ undeclared → r ≡ meaning.Nothing → d ≡ loneSetting (meaningOf (itemAs s p)) (declaredBy s (cursor.Item p))
+  pub lone-nothing : r ≡ meaning.Nothing → undeclared ≡ loneSetting (meaningOf (itemAs s p)) (declaredBy s (cursor.Item p))
   unfolding loneSetting
-  lone-nothing d g k = rw (told-nothing (meaningOf (itemAs s p)) r h k) g
+  lone-nothing k = rw (told-nothing (meaningOf (itemAs s p)) r h k)
 
 -- marks, by a meaning
 module _ (m : Marks) (x : Meaning) (r : ItemMeaning) (h : r ≡ meaningAs x) where
   pub mark-all : r ≡ meaning.All → IsMarked m x (record { all = true; own = m .own })
-  mark-all k = rw (told-star x r h k) (record { all = sym (or-true (m .all)); own = sym (or-none (m .own)) })
+  mark-all k = rw (told-star x r h k) (record { all = sym (or-true (m .all)); own = sym (or-false (m .own)) })
 
   pub mark-own : r ≡ meaning.Own → IsMarked m x (record { all = m .all; own = true })
-  mark-own k = rw (told-self x r h k) (record { all = sym (or-none (m .all)); own = sym (or-true (m .own)) })
+  mark-own k = rw (told-self x r h k) (record { all = sym (or-false (m .all)); own = sym (or-true (m .own)) })
 
   pub mark-source : (e : ExpressionRange) → r ≡ meaning.Source e → IsMarked m x m
-  mark-source e k = rw (told-source x r h e k .1) (record { all = sym (or-none (m .all)); own = sym (or-none (m .own)) })
+  mark-source e k = rw (told-source x r h e k .1) (record { all = sym (or-false (m .all)); own = sym (or-false (m .own)) })
 
   pub mark-nothing : r ≡ meaning.Nothing → IsMarked m x m
-  mark-nothing k = rw (told-nothing x r h k) (record { all = sym (or-none (m .all)); own = sym (or-none (m .own)) })
+  mark-nothing k = rw (told-nothing x r h k) (record { all = sym (or-false (m .all)); own = sym (or-false (m .own)) })

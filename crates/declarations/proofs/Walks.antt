@@ -4,6 +4,7 @@ use Prim.Native.Nat.{ℕ, _^_, _-_, _<_}
 use mathlib.Core.List.{List, [], _∷_}
 use mathlib.Core.Bool.{Bool, true, false, _||_}
 use native.Mathlib.Omega.{arith}
+use Rattle.ascii.proofs.Bytes.{or-false}
 use Rattle.origins.specs.Origins.{Origin}
 use Rattle.origins.specs.Expressions.{SourceExpression}
 use Rattle.origins.specs.Matching.{admits}
@@ -11,13 +12,13 @@ use Rattle.items.specs.Items.{Item}
 use Rattle.items.specs.Found.{itemAs}
 use Rattle.items.specs.declared.ItemFound.{ItemFound}
 use Rattle.items.specs.declared.ItemRange.{ItemRange}
-use Rattle.dictionaries.specs.Lookup.{cursorAt, itemsFrom, lowNext}
+use Rattle.dictionaries.specs.Lookup.{cursorAt, itemsFrom, IsPointed}
 use Rattle.dictionaries.specs.declared.ListItem.{ListItem}
 use Rattle.dictionaries.specs.declared.ListItem.the-variants as list
-use Rattle.dictionaries.proofs.Laws.{items-item, items-end}
+use Rattle.dictionaries.proofs.Laws.{items-item, items-end, next-low}
 use Rattle.declarations.specs.Allowlists.{Meaning, meaningOf, isStar, isSelf, hasStar, hasSelf, withSource, sourcesOf, anyAdmits}
 use Rattle.declarations.specs.Allowlists.Meaning.{star, self, source, nothing}
-use Rattle.declarations.specs.Settings.{listItem, itemAt, itemsAt, IsMarked}
+use Rattle.declarations.specs.Settings.{listItem, itemAt, IsItemAt, IsMarked}
 use Rattle.declarations.specs.declared.Marks.{Marks}
 use Rattle.declarations.specs.declared.Cursor.{Cursor}
 use Rattle.declarations.specs.declared.Cursor.the-variants as cursor
@@ -25,22 +26,22 @@ use Rattle.declarations.specs.declared.CursorItem.the-variants as item
 
 -- the item at a cursor
 module _ (s : List ℕ) (c : Cursor) where
-  pub at-end : c ≡ cursor.End → item.End ≡ itemAt s c
+  pub at-end : c ≡ cursor.End → IsItemAt s c item.End
   unfolding itemAt
-  at-end k = rw k
+  at-end k = record { is = rw k; falls = omega arith }
 
-  pub at-item : (p : ItemRange) → c ≡ cursor.Item p → item.Item (record { item = p; next = cursor.End }) ≡ itemAt s c
+  pub at-item : (p : ItemRange) → c ≡ cursor.Item p → IsItemAt s c (item.Item (record { item = p; next = cursor.End }))
   unfolding itemAt
-  at-item p k = rw k
+  at-item p k = record { is = rw k; falls = rw k (omega arith) }
 
-  module _ (n : ℕ) (k : c ≡ cursor.List n) (r : ListItem) (is : r ≡ cursorAt s n) where
-    pub at-list : (f : ItemFound) → r ≡ list.Item f → item.Item (record { item = f .range; next = cursor.List (f .next) }) ≡ itemAt s c
+  module _ (n : ℕ) (k : c ≡ cursor.List n) (r : ListItem) (p : IsPointed s n r) where
+    pub at-list : (f : ItemFound) → n < 2 ^ 64 → r ≡ list.Item f → IsItemAt s c (item.Item (record { item = f .range; next = cursor.List (f .next) }))
     unfolding itemAt listItem
-    at-list f e = rw (k, ← is, e)
+    at-list f h e = record { is = rw (k, ← (p .is), e); falls = rw k (omega (arith, p .past, next-low r f e)) }
 
-    pub at-list-end : r ≡ list.End → item.End ≡ itemAt s c
+    pub at-list-end : r ≡ list.End → IsItemAt s c item.End
     unfolding itemAt listItem
-    at-list-end e = rw (k, ← is, e)
+    at-list-end e = record { is = rw (k, ← (p .is), e); falls = omega arith }
 
 -- one item more in front
 source-more : (m : Meaning) (es : List SourceExpression) (o : Origin) → anyAdmits (withSource m es) o ≡ anyAdmits (withSource m []) o || anyAdmits es o
@@ -53,10 +54,6 @@ source-more (source e) es o = go (admits e o)
     go true = refl
     go false = refl
 source-more nothing es o = refl
-
-or-no : (b : Bool) → b || false ≡ b
-or-no true = refl
-or-no false = refl
 
 or-right : (a b c : Bool) → (a || b) || c ≡ a || (b || c)
 or-right true b c = refl
@@ -92,7 +89,7 @@ module _ (s : List ℕ) (c : ℕ) (r : ListItem) (is : r ≡ cursorAt s c) (m : 
 
     pub all-end : r ≡ list.End → m .all ≡ R
     unfolding hasStar
-    all-end e = sym (or-no (m .all)) ∙ (rw (items-end s c r is e) at so-far)
+    all-end e = sym (or-false (m .all)) ∙ (rw (items-end s c r is e) at so-far)
 
   module _ (R : Bool) (so-far : m .own || hasSelf (itemsFrom s c) ≡ R) where
     pub own-on : (f : ItemFound) (n : Marks) → r ≡ list.Item f → IsMarked m (meaningOf (itemAs s (f .range))) n → n .own || hasSelf (itemsFrom s (f .next)) ≡ R
@@ -102,10 +99,6 @@ module _ (s : List ℕ) (c : ℕ) (r : ListItem) (is : r ≡ cursorAt s c) (m : 
 
     pub own-end : r ≡ list.End → m .own ≡ R
     unfolding hasSelf
-    own-end e = sym (or-no (m .own)) ∙ (rw (items-end s c r is e) at so-far)
-
--- the next cursor, for omega
-pub next-low : (r : ListItem) (f : ItemFound) → r ≡ list.Item f → lowNext r ≡ f .next
-next-low r f e = ap lowNext e
+    own-end e = sym (or-false (m .own)) ∙ (rw (items-end s c r is e) at so-far)
 
 pub ruleset nexts = (arith, next-low)

@@ -1,5 +1,5 @@
 -- What the code keeps of a header for each feature, and what that says beside a text.
-use Prim.Native.Nat.{ℕ, zero, suc}
+use Prim.Native.Nat.{ℕ, zero, suc, _+_, _-_, _^_, _≤_}
 use mathlib.Core.Path.{_≡_}
 use mathlib.Core.List.{List, [], _∷_}
 use mathlib.Core.Bool.{Bool, true, false, _||_}
@@ -22,6 +22,8 @@ use Rattle.declarations.specs.declared.Cursor.{Cursor}
 use Rattle.declarations.specs.declared.Cursor.the-variants as cursor
 use Rattle.declarations.specs.declared.CursorItem.{CursorItem}
 use Rattle.declarations.specs.declared.CursorItem.the-variants as item
+use Rattle.declarations.specs.declared.Admission.{Admission}
+use Rattle.declarations.specs.declared.Admission.the-variants as admission
 use Rattle.declarations.specs.declared.Marks.{Marks}
 use Rattle.declarations.specs.declared.Setting.{Setting}
 use Rattle.declarations.specs.declared.Settings.{Settings}
@@ -85,10 +87,36 @@ unfoldable pub settingsFrom : List ℕ → ℕ → ℕ → List Setting
 settingsFrom s n zero = []
 settingsFrom s n (suc k) = settingOf s n ∷ settingsFrom s (suc n) k
 
--- whether a setting's list admits an origin, told whether it is the document's own; an undeclared feature has no list
-unfoldable pub someAdmits : Option Allowlist → Bool → Origin → Bool
-someAdmits (some l) same o = listAdmits l same o
-someAdmits none same o = false
+-- whether a setting's list admits an origin, told whether it is the document's own; an undeclared feature has no list, and so no answer
+unfoldable pub someAdmits : Option Allowlist → Bool → Origin → Option Bool
+someAdmits (some l) same o = some (listAdmits l same o)
+someAdmits none same o = none
+
+-- the answer to that
+abbrev pub admissionAs : Option Bool → Admission
+admissionAs (some true) = admission.Admitted
+admissionAs (some false) = admission.NotAdmitted
+admissionAs none = admission.Undeclared
+
+-- what an item and the cursor past it stand for
+unfoldable pub itemsIn : List ℕ → CursorItem → List Item
+itemsIn s (item.Item f) = itemAs s (f .item) ∷ itemsAt s (f .next)
+itemsIn s item.End = []
+
+-- a bound on how many items can follow a cursor, and one that is answered
+abbrev pub room : Cursor → ℕ
+room cursor.End = 0
+room (cursor.Item r) = 1
+room (cursor.List c) = 1 + (2 ^ 64 - c)
+
+abbrev pub roomAfter : CursorItem → ℕ
+roomAfter (item.Item f) = 1 + room (f .next)
+roomAfter item.End = 0
+
+-- the answer is the item at the cursor; fewer can follow the next cursor
+pub record IsItemAt (s : List ℕ) (c : Cursor) (r : CursorItem) : Type 0 where
+  pub is : r ≡ itemAt s c
+  pub falls : roomAfter r ≤ room c
 
 -- what is kept of a header
 pub record IsSettled (s : List ℕ) (r : Settings) : Type 0 where

@@ -1,13 +1,14 @@
-// What a header declares: settled once for the seventeen features, and answered from that.
+// What a header declares: settled once for the seventeen features, and answered from that and the header's bytes.
 ghost use mathlib.Core.Path.{_≡_};
 ghost use mathlib.Core.List.{[]};
+ghost use mathlib.Core.Option.{some};
 ghost use Prim.Native.Nat.{_<_};
 ghost use Rattle.origins.specs.Answers.{originIn};
 ghost use Rattle.origins.specs.Expressions.{expressionOf};
 ghost use Rattle.items.specs.Found.{itemAs};
 ghost use Rattle.dictionaries.specs.Lookup.{itemsFrom};
 ghost use Rattle.declarations.specs.Allowlists.{tokenMeaning, sourceMeaning, meaningOf, hasStar, hasSelf, withSource, sourcesOf, anyAdmits};
-ghost use Rattle.declarations.specs.Settings.{meaningAs, itemsAt, itemAt, undeclared, declaredBy, loneSetting, settingOf, settingAs, someAdmits, IsSettled, IsMarked};
+ghost use Rattle.declarations.specs.Settings.{meaningAs, itemsAt, IsItemAt, admissionAs, undeclared, declaredBy, loneSetting, settingOf, settingAs, someAdmits, IsSettled, IsMarked};
 use dictionaries::ListItem;
 use dictionaries::MemberFound;
 use items::ItemKind;
@@ -94,7 +95,7 @@ pub fn meaning(s: &[u8], item: ItemRange) -> ItemMeaning
 
 // The item at a cursor.
 pub fn item_at(s: &[u8], c: Cursor) -> CursorItem
-    ensures { λ r. ⌜ r ≡ itemAt (now (s .entry)) c ⌝ }
+    ensures { λ r. ⌜ IsItemAt (now (s .entry)) c r ⌝ }
 {
     match c {
         Cursor::End => CursorItem::End,
@@ -194,7 +195,12 @@ fn lone_setting(s: &[u8], item: ItemRange) -> Setting
             own: false,
             items: Cursor::Item(item),
         },
-        ItemMeaning::Nothing => no_setting(),
+        ItemMeaning::Nothing => Setting {
+            declared: false, // an ignored member
+            all: false,
+            own: false,
+            items: Cursor::End,
+        },
     }
 }
 
@@ -291,19 +297,36 @@ fn items_admit(s: &[u8], c: Cursor, t: &[u8], o: OriginRange) -> bool
     }
 }
 
+// Whether a list that is declared admits an origin.
+pub enum Admission {
+    Undeclared,
+    Admitted,
+    NotAdmitted,
+}
+
+fn answer(yes: bool) -> Admission
+    ensures { λ r. ⌜ r ≡ admissionAs (some yes) ⌝ }
+{
+    if yes {
+        Admission::Admitted
+    } else {
+        Admission::NotAdmitted
+    }
+}
+
 // Whether a setting's list admits an origin; `same`: it is the document's own.
-pub fn admits(s: &[u8], d: Setting, same: bool, t: &[u8], o: OriginRange) -> bool
-    ensures { λ r. ⌜ r ≡ someAdmits (settingAs (now (s .entry)) d) same (originIn (now (t .entry)) o) ⌝ }
+pub fn admits(s: &[u8], d: Setting, same: bool, t: &[u8], o: OriginRange) -> Admission
+    ensures { λ r. ⌜ r ≡ admissionAs (someAdmits (settingAs (now (s .entry)) d) same (originIn (now (t .entry)) o)) ⌝ }
 {
     let items = d.items;
     if !d.declared {
-        return false;
+        return Admission::Undeclared;
     }
     if d.all {
-        return true;
+        return Admission::Admitted;
     }
     if d.own & same {
-        return true;
+        return Admission::Admitted;
     }
-    items_admit(s, items, t, o)
+    answer(items_admit(s, items, t, o))
 }

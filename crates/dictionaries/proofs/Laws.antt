@@ -8,12 +8,13 @@ use native.Mathlib.Omega.{arith}
 use lib.ListN.{length, drop}
 use Rattle.ascii.specs.Bytes.{pick}
 use Rattle.ascii.specs.Texts.{sameBytes}
+use Rattle.ascii.specs.Reading.{isEmpty, skip, past}
 use Rattle.ascii.specs.Reading.Step.{more}
 use Rattle.ascii.specs.Places.{restOf}
 use Rattle.items.specs.Items.{Item, paramsOf}
 use Rattle.items.specs.Found.{itemAs}
 use Rattle.items.specs.declared.ItemFound.{ItemFound}
-use Rattle.dictionaries.specs.Dictionaries.{Value, Member, Plain, innerTurn, dictionary, plainly, members}
+use Rattle.dictionaries.specs.Dictionaries.{plains, dataOf, dictionary, innerTurn, Member, members, Plain, plainly, readAll, Value}
 use Rattle.dictionaries.specs.Dictionaries.Value.{one, many}
 use Rattle.dictionaries.specs.Lookup.{into, later, lastValueIn, lastFound, cursorAt, onward, walk, itemsFrom, foundAs, isSome, lowNext, highNext}
 use Rattle.dictionaries.specs.Added.{OneItemMore}
@@ -26,7 +27,21 @@ use Rattle.dictionaries.specs.declared.ListItem.the-variants as list
 use Rattle.dictionaries.proofs.Folds.{into-append}
 use Rattle.dictionaries.proofs.Standing.{walk-enough, inner-shrinks, cursor-step, cursor-stop, found-last, found-params}
 
--- a text is a dictionary exactly if it has members as data
+-- the empty text is a dictionary with no members
+pub empty-members : members [] ≡ some []
+unfolding readAll skip past isEmpty pick dataOf plainly plains
+empty-members = refl
+
+-- the last value of a key among no members, and in a text that is not a dictionary
+pub last-of-empty : (key : List ℕ) → lastValueIn key (some []) ≡ some none
+unfolding lastValueIn into
+last-of-empty key = refl
+
+pub last-of-none : (key : List ℕ) → lastValueIn key none ≡ none
+unfolding lastValueIn
+last-of-none key = refl
+
+-- a text is a dictionary exactly if it has a list of members, perhaps empty
 pub dictionary-members : (s : List ℕ) → isSome (dictionary s) ≡ isSome (members s)
 dictionary-members s = go (dictionary s)
   where

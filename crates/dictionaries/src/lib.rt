@@ -41,7 +41,7 @@ pub enum MemberFound {
     List(MemberList),
 }
 
-// An item of an inner list and the next cursor, or none is left.
+// An item of an inner list and the next cursor; or none is left, as where the text is malformed.
 pub enum ListItem {
     Item(ItemFound),
     End,

@@ -1,4 +1,5 @@
 // The examples of RFC 8941's grammar and document 01's header rows, read by the library: one line for each.
+use declarations::Admission;
 use declarations::Setting;
 use dictionaries::ListItem;
 use dictionaries::MemberFound;
@@ -188,10 +189,10 @@ fn looks_2() {
 // Whether camera's list admits an origin, for a document at https://a.example.
 fn ask(s: &[u8], d: Setting, text: &[u8], o: OriginRange) {
     let same = ascii::same(text, b"https://a.example");
-    if declarations::admits(s, d, same, text, o) {
-        put(b"yes");
-    } else {
-        put(b"no");
+    match declarations::admits(s, d, same, text, o) {
+        Admission::Admitted => put(b"yes"),
+        Admission::NotAdmitted => put(b"no"),
+        Admission::Undeclared => put(b"undeclared"),
     }
 }
 

@@ -47,7 +47,7 @@ originIn s (range.Tuple r) = tuple (tupleIn s r)
 originIn s (range.Opaque n) = opaque n
 originIn s range.Fresh = fresh
 
--- a host part's kind, where its host begins, and how long it is; with no host, the empty range at 0
+-- a host part's kind, and where its host begins and ends; with no host, the empty range at 0
 abbrev pub hostKind : HostPart → HostKind
 hostKind noHost = kind.None
 hostKind anyHost = kind.Any

@@ -17,7 +17,7 @@ use Rattle.origins.specs.declared.PortRead.the-variants as port
 use Rattle.origins.specs.declared.HostRead.{HostRead}
 use Rattle.origins.specs.declared.HostRead.the-variants as host
 
--- a byte as it is compared: in lower case where case is ignored
+-- case folding: a byte as it is compared, in lower case where case is ignored
 unfoldable pub fold : Bool → ℕ → ℕ
 fold true b = lower b
 fold false b = b

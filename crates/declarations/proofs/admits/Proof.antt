@@ -12,4 +12,5 @@ admits-spec =
     (λ c. search all-admits)
     (λ c. search own-admits)
     (λ c κs. search needs)
+    (λ c κs. search needs)
     (λ c. search items-decide))

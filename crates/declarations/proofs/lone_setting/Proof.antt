@@ -13,7 +13,6 @@ lone-setting-spec =
     (λ c. search needs)
     (λ c. search needs)
     (λ c. search needs)
-    (λ c κs. search needs)
     (λ c. search lone-all)
     (λ c. search lone-own)
     (λ c. search lone-source)

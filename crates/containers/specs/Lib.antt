@@ -1,0 +1,7 @@
+pub mod Attributes
+pub mod Allowlists
+pub mod Policies
+pub mod Sandboxes
+pub mod Answers
+pub mod Widening
+pub mod Examples
