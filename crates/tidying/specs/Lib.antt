@@ -1,2 +1,4 @@
 pub mod Tidied
+pub mod Writing
+pub mod Answers
 pub mod Examples
