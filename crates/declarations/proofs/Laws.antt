@@ -91,6 +91,19 @@ items-next s cursor.End = refl
 items-next s (cursor.Item r) = refl
 items-next s (cursor.List c) = list-next s c (cursorAt s c) refl
 
+-- what a list without `*` admits, by its parts
+pub listed-allows : (b : Bool) (es : List SourceExpression) (own o : Origin) → allows (listed b es) own o ≡ b && sameOrigin own o || anyAdmits es o
+unfolding listAdmits
+listed-allows b es own o = refl
+
+pub any-nil : (o : Origin) → anyAdmits [] o ≡ false
+unfolding anyAdmits
+any-nil o = refl
+
+pub any-cons : (e : SourceExpression) (es : List SourceExpression) (o : Origin) → anyAdmits (e ∷ es) o ≡ admits e o || anyAdmits es o
+unfolding anyAdmits
+any-cons e es o = refl
+
 -- `*` admits every origin
 pub all-allows : (own o : Origin) → allows all own o ≡ true
 unfolding listAdmits

@@ -2,3 +2,4 @@ pub mod Meanings
 pub mod Walks
 pub mod Kept
 pub mod Laws
+pub mod Back

@@ -41,6 +41,24 @@ pub last-of-none : (key : List ℕ) → lastValueIn key none ≡ none
 unfolding lastValueIn
 last-of-none key = refl
 
+-- the last value of a key, member by member
+pub last-fold : (key : List ℕ) (ms : List Plain) → lastValueIn key (some ms) ≡ some (into (later key) none ms)
+unfolding lastValueIn
+last-fold key ms = refl
+
+module _ (key : List ℕ) (v : Option Value) where
+  pub fold-nil : into (later key) v [] ≡ v
+  unfolding into
+  fold-nil = refl
+
+  pub fold-same : (m : Plain) (ms : List Plain) → sameBytes (m .key) key ≡ true → into (later key) v (m ∷ ms) ≡ into (later key) (some (m .value)) ms
+  unfolding into later pick
+  fold-same m ms e = rw e
+
+  pub fold-other : (m : Plain) (ms : List Plain) → sameBytes (m .key) key ≡ false → into (later key) v (m ∷ ms) ≡ into (later key) v ms
+  unfolding into later pick
+  fold-other m ms e = rw e
+
 -- a text is a dictionary exactly if it has a list of members, perhaps empty
 pub dictionary-members : (s : List ℕ) → isSome (dictionary s) ≡ isSome (members s)
 dictionary-members s = go (dictionary s)

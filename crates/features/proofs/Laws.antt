@@ -119,7 +119,7 @@ unfolding isKey
 name-starts n h = and-left (headIs isKeyStart (nameOf n)) (every isKeyByte (nameOf n)) (name-key n h)
 
 -- and has key bytes alone
-name-bytes : (n : ℕ) → n < featureCount → every isKeyByte (nameOf n) ≡ true
+pub name-bytes : (n : ℕ) → n < featureCount → every isKeyByte (nameOf n) ≡ true
 unfolding isKey
 name-bytes n h = and-right (headIs isKeyStart (nameOf n)) (every isKeyByte (nameOf n)) (name-key n h)
 

@@ -7,9 +7,9 @@ use mathlib.Core.Bool.{Bool, true, false, not, _&&_, _||_}
 use native.Mathlib.Omega.{arith}
 use lib.ListN.{length}
 use lib.Dec.{leb, eqb}
-use borrow.Author.Tests.{eqb-true, ne-eqb, lt-leb}
+use borrow.Author.Tests.{eqb-true, ne-eqb, lt-leb, le-leb}
 use Rattle.limits.specs.Limits.{hostBytes}
-use Rattle.ascii.specs.Bytes.{pick, within, isDigit, isLower, isUpper, isLabelByte, lower}
+use Rattle.ascii.specs.Bytes.{pick, within, isDigit, isLower, isUpper, isLabelByte, isText, lower}
 use Rattle.ascii.specs.Texts.{every, each, lowered}
 use Rattle.ascii.proofs.Bytes.{and-false, or-cases, and-left, and-right, within-low, within-high}
 use Rattle.origins.specs.Hosts.{labels, isLabel, isHost}
@@ -73,6 +73,27 @@ module _ (b : ℕ) (e : isHostByte b ≡ true) where
       above : 90 < b → lower b ≡ b
       above h = unfold lower pick in rw (lt-leb b 90 h, and-false (leb 65 b))
 
+-- bytes that stand in a string without a backslash before them
+abbrev pub isPlain : ℕ → Bool
+isPlain b = isText b && not (eqb b 34 || eqb b 92)
+
+plain-is : (b : ℕ) → 32 ≤ b → b ≤ 126 → (b ≡ 34 → ⊥) → (b ≡ 92 → ⊥) → isPlain b ≡ true
+plain-is b l u q s = rw (le-leb 32 b l, le-leb b 126 u, ne-eqb b 34 q, ne-eqb b 92 s)
+
+host-byte-plain : (b : ℕ) → isHostByte b ≡ true → isPlain b ≡ true
+host-byte-plain b e =
+    host-byte b e (isPlain b ≡ true)
+    (λ l u. plain-is b (omega arith) (omega arith) (λ z. omega arith) (λ z. omega arith))
+    (λ l u. plain-is b (omega arith) (omega arith) (λ z. omega arith) (λ z. omega arith))
+    (λ q. plain-is b (omega arith) (omega arith) (λ z. omega arith) (λ z. omega arith))
+    (λ q. plain-is b (omega arith) (omega arith) (λ z. omega arith) (λ z. omega arith))
+
+digit-plain : (b : ℕ) → isDigit b ≡ true → isPlain b ≡ true
+digit-plain b e =
+    let l : 48 ≤ b = within-low 48 57 b e in
+    let u : b ≤ 57 = within-high 48 57 b e in
+    plain-is b (omega arith) (omega arith) (λ z. omega arith) (λ z. omega arith)
+
 -- every byte, one after the other
 every-other : (p q : ℕ → Bool) → ((b : ℕ) → p b ≡ true → q b ≡ true) → (l : List ℕ) → every p l ≡ true → every q l ≡ true
 unfolding every
@@ -87,3 +108,9 @@ pub host-lower : (h : List ℕ) → every isHostByte h ≡ true → lowered h �
 unfolding every each
 host-lower [] e = refl
 host-lower (x ∷ xs) e = rw (lower-same x (and-left (isHostByte x) (every isHostByte xs) e), host-lower xs (and-right (isHostByte x) (every isHostByte xs) e))
+
+pub host-plain : (h : List ℕ) → every isHostByte h ≡ true → every isPlain h ≡ true
+host-plain h e = every-other isHostByte isPlain host-byte-plain h e
+
+pub digits-plain : (ds : List ℕ) → every isDigit ds ≡ true → every isPlain ds ≡ true
+digits-plain ds e = every-other isDigit isPlain digit-plain ds e

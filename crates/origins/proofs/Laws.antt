@@ -25,7 +25,7 @@ use Rattle.origins.specs.Origins.OriginSaid.{saysEmpty, saysNull, saysTu
 use Rattle.origins.specs.Expressions.{HostPart, SourceExpression, hostPartOf, schemeSource, expressionOf}
 use Rattle.origins.specs.Expressions.HostPart.{noHost, anyHost, exactHost, subdomainsOf}
 use Rattle.origins.specs.Matching.{sameScheme, endsIn, portAdmits, hostAdmits, admitsTuple, admits, sameTuple, sameOrigin}
-use Rattle.origins.specs.NormalForms.{GoodPort, GoodHost, GoodExpression, GoodOrigin, portText, originText, originBytes, normalPort, normal, normalForm, expressionText}
+use Rattle.origins.specs.NormalForms.{GoodPort, GoodHost, GoodExpression, GoodOrigin, portText, originText, originBytes, normalPort, normal, normalForm, expressionText, sameHost, samePort, sameExpression}
 use Rattle.origins.specs.Answers.{tupleRange, tupleIn, hostKind, hostFrom, hostTo, hostIn, expressionRange, expressionIn}
 use Rattle.origins.specs.declared.Scheme.{Scheme}
 use Rattle.origins.specs.declared.Scheme.the-variants.{Http, Https}
@@ -353,13 +353,92 @@ host-stays-good k anyHost p g = tt
 host-stays-good k (exactHost h) p g = g
 host-stays-good k (subdomainsOf h) p g = g
 
+-- the normal form of a good expression is good
+pub normal-good : (e : SourceExpression) → GoodExpression e → GoodExpression (normal e)
+normal-good e g = record { host = unfold normal in host-stays-good (e .scheme) (e .host) (e .port) (g .host); port = unfold normal in port-stays-good (e .scheme) (e .port) (g .port) }
+
+-- a good expression is read back from its text
+pub expression-back : (e : SourceExpression) → GoodExpression e → expressionOf (expressionText e) ≡ some e
+expression-back e g = text-back e g
+
 pub normal-reads : (s : List ℕ) (e : SourceExpression) → expressionOf s ≡ some e → expressionOf (normalForm e) ≡ some (normal e)
-normal-reads s e f =
-    let g = expression-good s e f in
-    text-back (normal e) (record { host = unfold normal in host-stays-good (e .scheme) (e .host) (e .port) (g .host); port = unfold normal in port-stays-good (e .scheme) (e .port) (g .port) })
+normal-reads s e f = text-back (normal e) (normal-good e (expression-good s e f))
 
 -- so normal forms are fixed points
 pub normal-fixed : (s : List ℕ) (e d : SourceExpression) → expressionOf s ≡ some e → expressionOf (normalForm e) ≡ some d → normalForm d ≡ normalForm e
 normal-fixed s e d f g =
     let q : normal e ≡ d = cc (normal-reads s e f) in
     ap expressionText (ap normal (sym q) ∙ normal-normal e)
+
+-- comparing expressions: alike exactly if they are the same
+hosts-is : (x y : HostPart) → sameHost x y ≡ true → x ≡ y
+unfolding sameHost
+hosts-is noHost noHost e = refl
+hosts-is noHost anyHost e = absurd (let z : _≡_ {A = ℕ} 0 1 = cc in omega arith)
+hosts-is noHost (exactHost b) e = absurd (let z : _≡_ {A = ℕ} 0 1 = cc in omega arith)
+hosts-is noHost (subdomainsOf b) e = absurd (let z : _≡_ {A = ℕ} 0 1 = cc in omega arith)
+hosts-is anyHost noHost e = absurd (let z : _≡_ {A = ℕ} 0 1 = cc in omega arith)
+hosts-is anyHost anyHost e = refl
+hosts-is anyHost (exactHost b) e = absurd (let z : _≡_ {A = ℕ} 0 1 = cc in omega arith)
+hosts-is anyHost (subdomainsOf b) e = absurd (let z : _≡_ {A = ℕ} 0 1 = cc in omega arith)
+hosts-is (exactHost a) noHost e = absurd (let z : _≡_ {A = ℕ} 0 1 = cc in omega arith)
+hosts-is (exactHost a) anyHost e = absurd (let z : _≡_ {A = ℕ} 0 1 = cc in omega arith)
+hosts-is (exactHost a) (exactHost b) e = ap exactHost (bytes-same a b e)
+hosts-is (exactHost a) (subdomainsOf b) e = absurd (let z : _≡_ {A = ℕ} 0 1 = cc in omega arith)
+hosts-is (subdomainsOf a) noHost e = absurd (let z : _≡_ {A = ℕ} 0 1 = cc in omega arith)
+hosts-is (subdomainsOf a) anyHost e = absurd (let z : _≡_ {A = ℕ} 0 1 = cc in omega arith)
+hosts-is (subdomainsOf a) (exactHost b) e = absurd (let z : _≡_ {A = ℕ} 0 1 = cc in omega arith)
+hosts-is (subdomainsOf a) (subdomainsOf b) e = ap subdomainsOf (bytes-same a b e)
+
+ports-is : (p q : PortPart) → samePort p q ≡ true → p ≡ q
+unfolding samePort
+ports-is Default Default e = refl
+ports-is Default Any e = absurd (let z : _≡_ {A = ℕ} 0 1 = cc in omega arith)
+ports-is Default (Number n) e = absurd (let z : _≡_ {A = ℕ} 0 1 = cc in omega arith)
+ports-is Any Default e = absurd (let z : _≡_ {A = ℕ} 0 1 = cc in omega arith)
+ports-is Any Any e = refl
+ports-is Any (Number n) e = absurd (let z : _≡_ {A = ℕ} 0 1 = cc in omega arith)
+ports-is (Number m) Default e = absurd (let z : _≡_ {A = ℕ} 0 1 = cc in omega arith)
+ports-is (Number m) Any e = absurd (let z : _≡_ {A = ℕ} 0 1 = cc in omega arith)
+ports-is (Number m) (Number n) e = ap Number (eqb-true m n e)
+
+pub same-expression-is : (a b : SourceExpression) → sameExpression a b ≡ true → a ≡ b
+unfolding sameExpression
+same-expression-is a b e =
+    let x = and-left (sameScheme (a .scheme) (b .scheme) && samePort (a .port) (b .port)) (sameHost (a .host) (b .host)) e in
+    let k : a .scheme ≡ b .scheme = scheme-is (a .scheme) (b .scheme) (and-left (sameScheme (a .scheme) (b .scheme)) (samePort (a .port) (b .port)) x) in
+    let p : a .port ≡ b .port = ports-is (a .port) (b .port) (and-right (sameScheme (a .scheme) (b .scheme)) (samePort (a .port) (b .port)) x) in
+    let h : a .host ≡ b .host = hosts-is (a .host) (b .host) (and-right (sameScheme (a .scheme) (b .scheme) && samePort (a .port) (b .port)) (sameHost (a .host) (b .host)) e) in
+    λ i. record { scheme = k i; host = h i; port = p i }
+
+host-self : (x : HostPart) → sameHost x x ≡ true
+unfolding sameHost
+host-self noHost = refl
+host-self anyHost = refl
+host-self (exactHost a) = same-bytes a
+host-self (subdomainsOf a) = same-bytes a
+
+port-self : (p : PortPart) → samePort p p ≡ true
+unfolding samePort
+port-self Default = refl
+port-self Any = refl
+port-self (Number n) = eq-eqb n n refl
+
+pub same-expression-self : (a : SourceExpression) → sameExpression a a ≡ true
+unfolding sameExpression
+same-expression-self a = rw (scheme-self (a .scheme), port-self (a .port), host-self (a .host))
+
+-- so two good expressions are the same exactly if their texts are: "each expression once" goes by the text
+pub same-expression-text : (a b : SourceExpression) → GoodExpression a → GoodExpression b → sameExpression a b ≡ sameBytes (expressionText a) (expressionText b)
+same-expression-text a b g h = go (sameExpression a b) (sameBytes (expressionText a) (expressionText b)) refl refl
+  where
+    go : (u v : Bool) → sameExpression a b ≡ u → sameBytes (expressionText a) (expressionText b) ≡ v → u ≡ v
+    go true true x y = refl
+    go false false x y = refl
+    go true false x y =
+        let q : a ≡ b = same-expression-is a b x in
+        absurd (let z : _≡_ {A = ℕ} 0 1 = cc (same-bytes (expressionText b)) in omega arith)
+    go false true x y =
+        let t : expressionText a ≡ expressionText b = bytes-same (expressionText a) (expressionText b) y in
+        let q : a ≡ b = cc (expression-back a g, expression-back b h) in
+        absurd (let z : _≡_ {A = ℕ} 0 1 = cc (same-expression-self b) in omega arith)

@@ -13,3 +13,4 @@ pub mod Said
 pub mod Laws
 pub mod PortTexts
 pub mod Normals
+pub mod Plain

@@ -1,5 +1,6 @@
 -- 01, "Tidied headers".
 use Prim.Native.Nat.{ℕ, zero, suc}
+use mathlib.Core.Path.{_≡_}
 use mathlib.Core.List.{List, [], _∷_, _++_, map}
 use mathlib.Core.Bool.{Bool, true, false, _||_}
 use mathlib.Core.Option.{Option, some, none}
@@ -67,3 +68,10 @@ tidyMembers d = tidyFrom d 0 featureCount
 -- the tidied form of a header: "joined by `, `", parameters dropped
 unfoldable pub tidied : List ℕ → List ℕ
 tidied s = written (tidyMembers (declares s))
+
+-- demand 2: "declares the same policy": both undeclared, both `*`, or lists with `self` in both or in neither, whose expressions have the same
+-- normal forms, repetitions dropped, in the same order
+pub data SamePolicy : Option Allowlist → Option Allowlist → Type 0 where
+  undeclared : SamePolicy none none
+  everything : SamePolicy (some all) (some all)
+  lists : (own : Bool) (es fs : List SourceExpression) → normalsOf es ≡ normalsOf fs → SamePolicy (some (listed own es)) (some (listed own fs))
