@@ -24,6 +24,7 @@ use Rattle.ascii.specs.declared.Read.the-variants as read
 use Rattle.ascii.specs.declared.Turn.{Turn}
 use Rattle.ascii.specs.declared.Turn.the-variants as turn
 
+-- a run, and what stands past it
 pub run-cut : (p : ℕ → Bool) (l : List ℕ) → l ≡ runOf p l ++ past p l
 unfolding runOf past pick
 run-cut p [] = refl
