@@ -1,0 +1,5 @@
+pub mod Decisions
+pub mod Masks
+pub mod Policies
+pub mod Widening
+pub mod Examples
