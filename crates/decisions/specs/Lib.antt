@@ -2,4 +2,5 @@ pub mod Decisions
 pub mod Masks
 pub mod Policies
 pub mod Widening
+pub mod Answers
 pub mod Examples
