@@ -3,16 +3,17 @@ use mathlib.Core.Path.{_≡_, refl, ap, _∙_, sym}
 use mathlib.Core.List.{List}
 use mathlib.Core.Logic.{⊎-elim}
 use Prim.Native.Nat.{ℕ, zero, suc, _+_, _-_, _*_, _^_, _/_, _%_, _<_, _≤_}
-use native.Mathlib.Nat.{pow-suc, add-comm, mul-assoc, add-mul-mod-self-right, eq-or-lt-of-le}
+use native.Mathlib.Nat.{pow-suc, add-comm, mul-assoc, add-mul-mod-self-right, eq-or-lt-of-le, div-eq-of-lt, lt-of-lt-of-le}
 use native.Mathlib.Numerals.{add-one}
 use native.Mathlib.Omega.{arith}
 use lib.Bits.{bitOr, or-shifted-r}
-use lib.Pow.{shl-exact, pow-add, high, field}
+use lib.Pow.{shl-exact, pow-mono, pow-add, high, field}
+use lib.Dec.{eqb}
 use lib.ListN.{getD}
 use Rattle.features.specs.Features.{featureCount}
-use Rattle.decisions.specs.Decisions.{Decision}
+use Rattle.decisions.specs.Decisions.{Decision, decided}
 use Rattle.decisions.specs.Decisions.Decision.{disabled, enabled}
-use Rattle.decisions.specs.Masks.{bitOf, maskBelow}
+use Rattle.decisions.specs.Masks.{bitOf, maskBelow, decisionAt}
 use Rattle.decisions.specs.Answers.{decisionIn, decisionsIn}
 use Rattle.decisions.specs.declared.Decision.{Decision as Answer}
 use Rattle.decisions.specs.declared.Decision.the-variants as answer
@@ -72,3 +73,16 @@ mask-bit p (suc n) j lt =
     (λ (q : j ≡ n). rw (q, add-comm, high (bitOf (p n)) n (mask-lt p n)) (bit-mod (p n)))
     (λ (l : j < n). low-bit (bitOf (p n)) (maskBelow p n) n j l ∙ mask-bit p n j l)
     (eq-or-lt-of-le (let h : j ≤ n = omega arith in h))
+
+-- a number has no bit from one on that it lies below
+pub bits-past : (m n k : ℕ) → m < 2 ^ k → k ≤ n → decisionAt m n ≡ disabled
+unfolding decisionAt decided
+bits-past m n k h le = rw (div-eq-of-lt (lt-of-lt-of-le h (pow-mono le)))
+
+-- a bit that is read, and one that no number has
+pub bit-read : (r : Answer) (m n : ℕ) → decisionIn r ≡ decided (eqb (m / 2 ^ n % 2) 1) → decisionIn r ≡ decisionAt m n
+unfolding decisionAt
+bit-read r m n is = is
+
+pub bit-none : (m n : ℕ) → m < 2 ^ 32 → 32 ≤ n → disabled ≡ decisionAt m n
+bit-none m n h le = sym (bits-past m n 32 h le)
