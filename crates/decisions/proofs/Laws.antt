@@ -1,0 +1,188 @@
+-- The laws of decisions, for the crates above: nothing there opens a definition of this crate. Assumes nothing.
+use mathlib.Core.Path.{_≡_, refl, ap, _∙_, sym}
+use Prim.Native.Nat.{ℕ, zero, suc, _+_, _*_, _^_, _/_, _%_, _<_, _≤_}
+use mathlib.Core.List.{List}
+use mathlib.Core.Bool.{Bool, true, false}
+use mathlib.Core.Option.{Option, some, none}
+use native.Mathlib.Omega.{arith}
+use lib.Dec.{eqb}
+use Rattle.features.specs.Features.{Default, featureCount, defaultOf}
+use Rattle.features.specs.Features.Default.{star, self}
+use Rattle.features.specs.Answers.{defaultAs}
+use Rattle.features.specs.declared.DefaultOf.{DefaultOf}
+use Rattle.origins.specs.Origins.{Origin, TupleOrigin}
+use Rattle.origins.specs.Origins.Origin.{tuple, opaque, fresh}
+use Rattle.origins.specs.Matching.{sameOrigin}
+use Rattle.origins.specs.Answers.{originIn}
+use Rattle.origins.specs.declared.OriginRange.{OriginRange}
+use Rattle.origins.proofs.Laws.{tuple-self, opaque-self, fresh-left}
+use Rattle.declarations.specs.Allowlists.{Allowlist, allows}
+use Rattle.declarations.specs.Settings.{settingAs, someAdmits, admissionAs}
+use Rattle.declarations.specs.Widening.{Wider, DeclaresMore}
+use Rattle.declarations.specs.Widening.DeclaresMore.{neither, both}
+use Rattle.declarations.specs.declared.Setting.{Setting}
+use Rattle.declarations.specs.declared.Admission.{Admission}
+use Rattle.declarations.proofs.Laws.{some-allows, none-allows, more-self}
+use Rattle.containers.specs.Allowlists as attribute
+use Rattle.containers.specs.Answers.{policyIn}
+use Rattle.containers.specs.Widening.{AllowsMore}
+use Rattle.containers.specs.Widening as widening
+use Rattle.containers.specs.declared.ContainerPolicy.{ContainerPolicy}
+use Rattle.decisions.specs.Decisions.{Decision, decided, unlessDisabled, byList, byDefault, valueBy, inheritedBy, questionBy}
+use Rattle.decisions.specs.Decisions.Decision.{disabled, enabled}
+use Rattle.decisions.specs.Masks.{bitOf, maskBelow, maskOf, decisionAt}
+use Rattle.decisions.specs.Policies.{Policy, Frame, attributeAdmits, value, inheritedFramed, question, valueIn, questionIn, inheritedIn, enabledMask, forecast}
+use Rattle.decisions.specs.Widening.{Stays, WiderPolicy, WiderFrame}
+use Rattle.decisions.specs.Answers.{decisionIn, admissionIn, attributeIn, decisionsIn}
+use Rattle.decisions.specs.declared.Decision.{Decision as Answer}
+use Rattle.decisions.specs.declared.AttributeAnswer.{AttributeAnswer}
+use Rattle.decisions.proofs.Masks.{mask-lt, mask-bit, bits-past}
+
+-- what `admits` answered, read again
+admission-back : (x : Option Bool) → admissionIn (admissionAs x) ≡ x
+admission-back (some true) = refl
+admission-back (some false) = refl
+admission-back none = refl
+
+-- the answer of `value`, told what `declarations::admits` answered for a setting, is *Value* of the list that the setting says
+module _ (s t : List ℕ) (d : Setting) (own : Origin) (o : OriginRange) (same : Bool) (a : Admission) (i r : Answer)
+    (is-same : same ≡ sameOrigin own (originIn t o))
+    (admitted : a ≡ admissionAs (someAdmits (settingAs s d) same (originIn t o))) where
+  listed : admissionIn a ≡ someAdmits (settingAs s d) (sameOrigin own (originIn t o)) (originIn t o)
+  listed = ap admissionIn admitted ∙ admission-back (someAdmits (settingAs s d) same (originIn t o)) ∙ ap (λ (b : Bool). someAdmits (settingAs s d) b (originIn t o)) is-same
+
+  pub value-says : decisionIn r ≡ valueBy (decisionIn i) (admissionIn a) → decisionIn r ≡ value (decisionIn i) (settingAs s d) own (originIn t o)
+  unfolding value
+  value-says is = is ∙ ap (valueBy (decisionIn i)) listed
+
+  -- and that of `question` is *Question*
+  pub question-says : (default : DefaultOf) → decisionIn r ≡ questionBy (decisionIn i) (admissionIn a) (defaultAs default) same → decisionIn r ≡ question (decisionIn i) (settingAs s d) (defaultAs default) own (originIn t o)
+  unfolding question
+  question-says default is =
+      is
+      ∙ ap (λ (x : Option Bool). questionBy (decisionIn i) x (defaultAs default) same) listed
+      ∙ ap (questionBy (decisionIn i) (someAdmits (settingAs s d) (sameOrigin own (originIn t o)) (originIn t o)) (defaultAs default)) is-same
+
+-- the answer of `inherited`, told what `attribute_admits` answered for a container policy, is *Inherited* of the list that the policy says
+module _ (s t : List ℕ) (p : ContainerPolicy) (container declared : Origin) (o : OriginRange) (container-same declared-same : Bool) (x : AttributeAnswer)
+    (is-container : container-same ≡ sameOrigin container (originIn t o))
+    (is-declared : declared-same ≡ sameOrigin declared (originIn t o))
+    (admitted : attributeIn x ≡ attributeAdmits (policyIn s p) container-same declared-same (originIn t o)) where
+  pub inherited-says : (valueOwn valueArriving r : Answer) (default : DefaultOf) → decisionIn r ≡ inheritedBy (decisionIn valueOwn) (decisionIn valueArriving) (attributeIn x) (defaultAs default) container-same
+      → decisionIn r ≡ inheritedFramed (decisionIn valueOwn) (decisionIn valueArriving) (policyIn s p) (defaultAs default) container declared (originIn t o)
+  unfolding inheritedFramed
+  inherited-says valueOwn valueArriving r default is = rw (← is-container, ← is-declared, ← admitted) is
+
+-- at the own origin of a document *Question* and *Value* agree
+own-default : (default : Option Default) → byDefault default true ≡ enabled
+unfolding byDefault decided
+own-default (some star) = refl
+own-default (some self) = refl
+own-default none = refl
+
+pub own-agrees : (inherited : Decision) (declared : Option Allowlist) (default : Option Default) (own : Origin) → sameOrigin own own ≡ true → question inherited declared default own own ≡ value inherited declared own own
+unfolding question value questionBy valueBy
+own-agrees inherited declared default own e = rw (e, own-default default)
+
+-- Disabled inherited is Disabled for every origin
+pub value-disabled : (declared : Option Allowlist) (own o : Origin) → value disabled declared own o ≡ disabled
+unfolding value valueBy unlessDisabled
+value-disabled declared own o = refl
+
+pub question-disabled : (declared : Option Allowlist) (default : Option Default) (own o : Origin) → question disabled declared default own o ≡ disabled
+unfolding question questionBy unlessDisabled
+question-disabled declared default own o = refl
+
+-- a container's value that is Disabled for its own origin, or for the arriving one, is Disabled inherited, whatever the attributes say
+pub inherited-own : (valueArriving : Decision) (allowed : Option attribute.Allowlist) (default : Option Default) (container declared arriving : Origin) → inheritedFramed disabled valueArriving allowed default container declared arriving ≡ disabled
+unfolding inheritedFramed inheritedBy unlessDisabled
+inherited-own valueArriving allowed default container declared arriving = refl
+
+pub inherited-arriving : (valueOwn : Decision) (allowed : Option attribute.Allowlist) (default : Option Default) (container declared arriving : Origin) → inheritedFramed valueOwn disabled allowed default container declared arriving ≡ disabled
+unfolding inheritedFramed inheritedBy unlessDisabled
+inherited-arriving disabled allowed default container declared arriving = refl
+inherited-arriving enabled allowed default container declared arriving = refl
+
+-- for a document: own-agrees and the two above
+module _ (p : Policy) (n : ℕ) where
+  pub own-agrees-in : sameOrigin (p .own) (p .own) ≡ true → questionIn p n (p .own) ≡ valueIn p n (p .own)
+  unfolding questionIn valueIn
+  own-agrees-in e = own-agrees (p .inherited n) (p .declared n) (defaultOf n) (p .own) e
+
+  -- what inherits Disabled is Disabled for every origin
+  pub disabled-question : (o : Origin) → p .inherited n ≡ disabled → questionIn p n o ≡ disabled
+  unfolding questionIn
+  disabled-question o e = rw e (question-disabled (p .declared n) (defaultOf n) (p .own) o)
+
+  pub disabled-value : (o : Origin) → p .inherited n ≡ disabled → valueIn p n o ≡ disabled
+  unfolding valueIn
+  disabled-value o e = rw e (value-disabled (p .declared n) (p .own) o)
+
+  -- a value that is Disabled for the own origin is Disabled inherited in every frame, whatever arrives there
+  pub value-below : (f : Frame) (arriving : Origin) → valueIn p n (p .own) ≡ disabled → inheritedIn p f arriving n ≡ disabled
+  unfolding inheritedIn
+  value-below f arriving e = rw e (inherited-own (valueIn p n arriving) (f .allowed n) (defaultOf n) (p .own) (f .declared) arriving)
+
+  -- and so is a question that is
+  pub question-below : (f : Frame) (arriving : Origin) → sameOrigin (p .own) (p .own) ≡ true → questionIn p n (p .own) ≡ disabled → inheritedIn p f arriving n ≡ disabled
+  question-below f arriving own e = value-below f arriving (sym (own-agrees-in own) ∙ e)
+
+  -- what inherits Disabled hands Disabled on
+  pub disabled-below : (f : Frame) (arriving : Origin) → p .inherited n ≡ disabled → inheritedIn p f arriving n ≡ disabled
+  disabled-below f arriving e = value-below f arriving (disabled-value (p .own) e)
+
+-- what stays Enabled: decisions put together from decisions that do
+pub stays-self : (d : Decision) → Stays d d
+stays-self d = record { keeps = λ e. e }
+
+pub stays-on : {c d e : Decision} → Stays c d → Stays d e → Stays c e
+stays-on s t = record { keeps = λ k. t .keeps (s .keeps k) }
+
+unless-keeps : (c d e f : Decision) → (c ≡ enabled → d ≡ enabled) → (e ≡ enabled → f ≡ enabled) → unlessDisabled c e ≡ enabled → unlessDisabled d f ≡ enabled
+unfolding unlessDisabled
+unless-keeps disabled d e f h g k = absurd (let z : _≡_ {A = ℕ} 0 1 = cc in omega arith)
+unless-keeps enabled d e f h g k = rw (h refl) (g k)
+
+unless-stays : {c d e f : Decision} → Stays c d → Stays e f → Stays (unlessDisabled c e) (unlessDisabled d f)
+unless-stays {c} {d} {e} {f} h g = record { keeps = unless-keeps c d e f (λ k. h .keeps k) (λ k. g .keeps k) }
+
+-- two answers of lists: neither has one, or both have and the second admits if the first does
+data Follows : Option Bool → Option Bool → Type 0 where
+  no-lists : Follows none none
+  lists : {a b : Bool} → (a ≡ true → b ≡ true) → Follows (some a) (some b)
+
+decided-keeps : (a b : Bool) → (a ≡ true → b ≡ true) → decided a ≡ enabled → decided b ≡ enabled
+unfolding decided
+decided-keeps true b h k = rw (h refl)
+decided-keeps false b h k = absurd (let z : _≡_ {A = ℕ} 0 1 = cc in omega arith)
+
+list-stays : {a b : Option Bool} (d : Decision) → Follows a b → Stays (byList a d) (byList b d)
+unfolding byList
+list-stays d no-lists = stays-self d
+list-stays d (lists {a} {b} h) = record { keeps = decided-keeps a b h }
+
+declared-follows : {a b : Option Allowlist} (own o : Origin) → DeclaresMore a b → Follows (someAdmits a (sameOrigin own o) o) (someAdmits b (sameOrigin own o) o)
+declared-follows own o neither = rw (none-allows (sameOrigin own o) o) no-lists
+declared-follows own o (both {l} {m} w) = rw (some-allows l own o, some-allows m own o) (lists (λ e. w .keeps own o e))
+
+allowed-follows : {a b : Option attribute.Allowlist} (container declared o : Origin) → AllowsMore a b → Follows (attributeAdmits a (sameOrigin container o) (sameOrigin declared o) o) (attributeAdmits b (sameOrigin container o) (sameOrigin declared o) o)
+unfolding attributeAdmits
+allowed-follows container declared o widening.AllowsMore.neither = no-lists
+allowed-follows container declared o (widening.AllowsMore.both w) = lists (λ e. w .keeps container declared o e)
+
+-- *Value* is monotone in what is inherited and declared
+pub value-stays : {i j : Decision} {a b : Option Allowlist} (own o : Origin) → Stays i j → DeclaresMore a b → Stays (value i a own o) (value j b own o)
+unfolding value valueBy
+value-stays own o h more = unless-stays h (list-stays enabled (declared-follows own o more))
+
+-- *Question* is, too
+pub question-stays : {i j : Decision} {a b : Option Allowlist} (default : Option Default) (own o : Origin) → Stays i j → DeclaresMore a b → Stays (question i a default own o) (question j b default own o)
+unfolding question questionBy
+question-stays default own o h more = unless-stays h (list-stays (byDefault default (sameOrigin own o)) (declared-follows own o more))
+
+-- *Inherited* is monotone in the container's values and in the attribute's list
+pub inherited-stays : {c d e f : Decision} {a b : Option attribute.Allowlist} (default : Option Default) (container declared arriving : Origin) → Stays c d → Stays e f → AllowsMore a b
+    → Stays (inheritedFramed c e a default container declared arriving) (inheritedFramed d f b default container declared arriving)
+unfolding inheritedFramed inheritedBy
+inherited-stays default container declared arriving h g more =
+    unless-stays h (unless-stays g (list-stays (byDefault default (sameOrigin container arriving)) (allowed-follows container declared arriving more)))
