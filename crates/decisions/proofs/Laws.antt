@@ -1,11 +1,12 @@
 -- The laws of decisions, for the crates above: nothing there opens a definition of this crate. Assumes nothing.
-use mathlib.Core.Path.{_≡_, refl, ap, _∙_, sym}
+use mathlib.Core.Path.{_≡_, refl, ap, _∙_, sym, subst}
 use Prim.Native.Nat.{ℕ, zero, suc, _+_, _*_, _^_, _/_, _%_, _<_, _≤_}
 use mathlib.Core.List.{List}
 use mathlib.Core.Bool.{Bool, true, false}
 use mathlib.Core.Option.{Option, some, none}
 use native.Mathlib.Omega.{arith}
-use lib.Dec.{eqb}
+use lib.Dec.{ltb, eqb}
+use borrow.Author.Tests.{ltb-true, ltb-false}
 use Rattle.features.specs.Features.{Default, featureCount, defaultOf}
 use Rattle.features.specs.Features.Default.{star, self}
 use Rattle.features.specs.Answers.{defaultAs}
@@ -186,3 +187,94 @@ pub inherited-stays : {c d e f : Decision} {a b : Option attribute.Allowlist} (d
 unfolding inheritedFramed inheritedBy
 inherited-stays default container declared arriving h g more =
     unless-stays h (unless-stays g (list-stays (byDefault default (sameOrigin container arriving)) (allowed-follows container declared arriving more)))
+
+-- what is the same is as wide
+pub wider-self : (p : Policy) → WiderPolicy p p
+wider-self p = record { own = refl; inherits = λ n. stays-self (p .inherited n); declares = λ n. more-self (p .declared n) }
+
+allows-self : (l : Option attribute.Allowlist) → AllowsMore l l
+allows-self (some l) = widening.AllowsMore.both (record { keeps = λ container declared o e. e })
+allows-self none = widening.AllowsMore.neither
+
+pub frame-self : (f : Frame) → WiderFrame f f
+frame-self f = record { declared = refl; allows = λ n. allows-self (f .allowed n) }
+
+-- the same of a document: a wider policy keeps what is Enabled
+module _ (p q : Policy) (wide : WiderPolicy p q) where
+  pub value-in-stays : (n : ℕ) (o : Origin) → Stays (valueIn p n o) (valueIn q n o)
+  unfolding valueIn
+  value-in-stays n o = rw (← wide .own) (value-stays (p .own) o (wide .inherits n) (wide .declares n))
+
+  pub question-in-stays : (n : ℕ) (o : Origin) → Stays (questionIn p n o) (questionIn q n o)
+  unfolding questionIn
+  question-in-stays n o = rw (← wide .own) (question-stays (defaultOf n) (p .own) o (wide .inherits n) (wide .declares n))
+
+  -- and in its frames, with wider attributes too
+  pub inherited-in-stays : (f g : Frame) → WiderFrame f g → (arriving : Origin) (n : ℕ) → Stays (inheritedIn p f arriving n) (inheritedIn q g arriving n)
+  unfolding inheritedIn
+  inherited-in-stays f g frames arriving n =
+      subst (λ (own : Origin). Stays (inheritedIn p f arriving n) (inheritedFramed (valueIn q n own) (valueIn q n arriving) (g .allowed n) (defaultOf n) own (g .declared) arriving)) (wide .own)
+      (subst (λ (declared : Origin). Stays (inheritedIn p f arriving n) (inheritedFramed (valueIn q n (p .own)) (valueIn q n arriving) (g .allowed n) (defaultOf n) (p .own) declared arriving)) (frames .declared)
+      (inherited-stays (defaultOf n) (p .own) (f .declared) arriving (value-in-stays n (p .own)) (value-in-stays n arriving) (frames .allows n)))
+
+-- bit n of the number is decision n
+bit-decides : (d : Decision) → decided (eqb (bitOf d) 1) ≡ d
+unfolding decided
+bit-decides disabled = refl
+bit-decides enabled = refl
+
+pub mask-at : (p : ℕ → Decision) (n : ℕ) → n < featureCount → decisionAt (maskOf p) n ≡ p n
+unfolding decisionAt
+mask-at p n h = rw (mask-bit p featureCount n h) (bit-decides (p n))
+
+-- "no other bit": each from 17 on is clear
+pub mask-past : (p : ℕ → Decision) (n : ℕ) → featureCount ≤ n → decisionAt (maskOf p) n ≡ disabled
+mask-past p n h = bits-past (maskOf p) n featureCount (mask-lt p featureCount) h
+
+pub mask-below : (p : ℕ → Decision) → maskOf p < 2 ^ featureCount
+mask-below p = mask-lt p featureCount
+
+-- each bit stays set where each decision stays Enabled
+pub mask-stays : (p q : ℕ → Decision) → ((n : ℕ) → Stays (p n) (q n)) → (n : ℕ) → Stays (decisionAt (maskOf p) n) (decisionAt (maskOf q) n)
+mask-stays p q h n = go (ltb n featureCount) refl
+  where
+    go : (b : Bool) → ltb n featureCount ≡ b → Stays (decisionAt (maskOf p) n) (decisionAt (maskOf q) n)
+    go true e = let low : n < featureCount = omega (arith, ltb-true) in rw (mask-at p n low, mask-at q n low) (h n)
+    go false e = let high : featureCount ≤ n = omega (arith, ltb-false) in rw (mask-past p n high, mask-past q n high) (stays-self disabled)
+
+-- the same decisions are the same number
+below-same : (p q : ℕ → Decision) (k : ℕ) → ((n : ℕ) → n < k → p n ≡ q n) → maskBelow p k ≡ maskBelow q k
+unfolding maskBelow
+below-same p q zero h = refl
+below-same p q (suc k) h = rw (below-same p q k (λ n lt. h n (omega arith)), h k (omega arith))
+
+pub mask-same : (p q : ℕ → Decision) → ((n : ℕ) → n < featureCount → p n ≡ q n) → maskOf p ≡ maskOf q
+mask-same p q h = below-same p q featureCount h
+
+-- the features enabled at a document's own origin, bit by bit, and a forecast
+pub enabled-at : (p : Policy) (n : ℕ) → n < featureCount → decisionAt (enabledMask p) n ≡ questionIn p n (p .own)
+unfolding enabledMask
+enabled-at p n h = mask-at (λ k. questionIn p k (p .own)) n h
+
+pub enabled-past : (p : Policy) (n : ℕ) → featureCount ≤ n → decisionAt (enabledMask p) n ≡ disabled
+unfolding enabledMask
+enabled-past p n h = mask-past (λ k. questionIn p k (p .own)) n h
+
+pub forecast-at : (p : Policy) (f : Frame) (n : ℕ) → n < featureCount → decisionAt (forecast p f) n ≡ inheritedIn p f (f .declared) n
+unfolding forecast
+forecast-at p f n h = mask-at (λ k. inheritedIn p f (f .declared) k) n h
+
+pub forecast-past : (p : Policy) (f : Frame) (n : ℕ) → featureCount ≤ n → decisionAt (forecast p f) n ≡ disabled
+unfolding forecast
+forecast-past p f n h = mask-past (λ k. inheritedIn p f (f .declared) k) n h
+
+-- no bit of either falls with a wider policy
+pub enabled-stays : (p q : Policy) → WiderPolicy p q → (n : ℕ) → Stays (decisionAt (enabledMask p) n) (decisionAt (enabledMask q) n)
+unfolding enabledMask
+enabled-stays p q wide n =
+    mask-stays (λ k. questionIn p k (p .own)) (λ k. questionIn q k (q .own)) (λ k. subst (λ (o : Origin). Stays (questionIn p k (p .own)) (questionIn q k o)) (wide .own) (question-in-stays p q wide k (p .own))) n
+
+pub forecast-stays : (p q : Policy) (f g : Frame) → WiderPolicy p q → WiderFrame f g → (n : ℕ) → Stays (decisionAt (forecast p f) n) (decisionAt (forecast q g) n)
+unfolding forecast
+forecast-stays p q f g wide frames n =
+    mask-stays (λ k. inheritedIn p f (f .declared) k) (λ k. inheritedIn q g (g .declared) k) (λ k. subst (λ (o : Origin). Stays (inheritedIn p f (f .declared) k) (inheritedIn q g o k)) (frames .declared) (inherited-in-stays p q wide f g frames (f .declared) k)) n
