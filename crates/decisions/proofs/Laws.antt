@@ -4,7 +4,9 @@ use Prim.Native.Nat.{ℕ, zero, suc, _+_, _*_, _^_, _/_, _%_, _<_, _≤_}
 use mathlib.Core.List.{List}
 use mathlib.Core.Bool.{Bool, true, false}
 use mathlib.Core.Option.{Option, some, none}
+use native.Mathlib.Nat.{add-comm, mod-one, mod-lt, mod-eq-of-lt}
 use native.Mathlib.Omega.{arith}
+use lib.Pow.{mod-pow-add}
 use lib.Dec.{ltb, eqb}
 use borrow.Author.Tests.{ltb-true, ltb-false}
 use Rattle.features.specs.Features.{Default, featureCount, defaultOf}
@@ -18,13 +20,15 @@ use Rattle.origins.specs.Answers.{originIn}
 use Rattle.origins.specs.declared.OriginRange.{OriginRange}
 use Rattle.origins.proofs.Laws.{tuple-self, opaque-self, fresh-left}
 use Rattle.declarations.specs.Allowlists.{Allowlist, allows}
+use Rattle.declarations.specs.Allowlists.Allowlist.{all, listed}
 use Rattle.declarations.specs.Settings.{settingAs, someAdmits, admissionAs}
 use Rattle.declarations.specs.Widening.{Wider, DeclaresMore}
 use Rattle.declarations.specs.Widening.DeclaresMore.{neither, both}
 use Rattle.declarations.specs.declared.Setting.{Setting}
 use Rattle.declarations.specs.declared.Admission.{Admission}
-use Rattle.declarations.proofs.Laws.{some-allows, none-allows, more-self}
+use Rattle.declarations.proofs.Laws.{some-allows, none-allows, more-self, listed-fresh}
 use Rattle.containers.specs.Allowlists as attribute
+use Rattle.containers.proofs.Laws.{fresh-all}
 use Rattle.containers.specs.Answers.{policyIn}
 use Rattle.containers.specs.Widening.{AllowsMore}
 use Rattle.containers.specs.Widening as widening
@@ -49,19 +53,19 @@ admission-back none = refl
 module _ (s t : List ℕ) (d : Setting) (own : Origin) (o : OriginRange) (same : Bool) (a : Admission) (i r : Answer)
     (is-same : same ≡ sameOrigin own (originIn t o))
     (admitted : a ≡ admissionAs (someAdmits (settingAs s d) same (originIn t o))) where
-  listed : admissionIn a ≡ someAdmits (settingAs s d) (sameOrigin own (originIn t o)) (originIn t o)
-  listed = ap admissionIn admitted ∙ admission-back (someAdmits (settingAs s d) same (originIn t o)) ∙ ap (λ (b : Bool). someAdmits (settingAs s d) b (originIn t o)) is-same
+  answered : admissionIn a ≡ someAdmits (settingAs s d) (sameOrigin own (originIn t o)) (originIn t o)
+  answered = ap admissionIn admitted ∙ admission-back (someAdmits (settingAs s d) same (originIn t o)) ∙ ap (λ (b : Bool). someAdmits (settingAs s d) b (originIn t o)) is-same
 
   pub value-says : decisionIn r ≡ valueBy (decisionIn i) (admissionIn a) → decisionIn r ≡ value (decisionIn i) (settingAs s d) own (originIn t o)
   unfolding value
-  value-says is = is ∙ ap (valueBy (decisionIn i)) listed
+  value-says is = is ∙ ap (valueBy (decisionIn i)) answered
 
   -- and that of `question` is *Question*
   pub question-says : (default : DefaultOf) → decisionIn r ≡ questionBy (decisionIn i) (admissionIn a) (defaultAs default) same → decisionIn r ≡ question (decisionIn i) (settingAs s d) (defaultAs default) own (originIn t o)
   unfolding question
   question-says default is =
       is
-      ∙ ap (λ (x : Option Bool). questionBy (decisionIn i) x (defaultAs default) same) listed
+      ∙ ap (λ (x : Option Bool). questionBy (decisionIn i) x (defaultAs default) same) answered
       ∙ ap (questionBy (decisionIn i) (someAdmits (settingAs s d) (sameOrigin own (originIn t o)) (originIn t o)) (defaultAs default)) is-same
 
 -- the answer of `inherited`, told what `attribute_admits` answered for a container policy, is *Inherited* of the list that the policy says
@@ -84,6 +88,12 @@ own-default none = refl
 pub own-agrees : (inherited : Decision) (declared : Option Allowlist) (default : Option Default) (own : Origin) → sameOrigin own own ≡ true → question inherited declared default own own ≡ value inherited declared own own
 unfolding question value questionBy valueBy
 own-agrees inherited declared default own e = rw (e, own-default default)
+
+-- the origin of a document, which is never fresh, equals itself
+pub document-self : (o : Origin) → (o ≡ fresh → ⊥) → sameOrigin o o ≡ true
+document-self (tuple x) h = tuple-self x
+document-self (opaque n) h = opaque-self n
+document-self fresh h = absurd (h refl)
 
 -- Disabled inherited is Disabled for every origin
 pub value-disabled : (declared : Option Allowlist) (own o : Origin) → value disabled declared own o ≡ disabled
@@ -131,6 +141,33 @@ module _ (p : Policy) (n : ℕ) where
   -- what inherits Disabled hands Disabled on
   pub disabled-below : (f : Frame) (arriving : Origin) → p .inherited n ≡ disabled → inheritedIn p f arriving n ≡ disabled
   disabled-below f arriving e = value-below f arriving (disabled-value (p .own) e)
+
+-- a fresh origin is admitted only by `*`: in the container's header
+decided-yes : (b : Bool) → decided b ≡ enabled → b ≡ true
+unfolding decided
+decided-yes true e = refl
+decided-yes false e = absurd (let z : _≡_ {A = ℕ} 0 1 = cc in omega arith)
+
+fresh-list : (l : Allowlist) (own : Origin) → allows l own fresh ≡ true → l ≡ all
+fresh-list all own e = refl
+fresh-list (listed b es) own e = absurd (let f : allows (listed b es) own fresh ≡ false = listed-fresh b es own in let z : _≡_ {A = ℕ} 0 1 = cc in omega arith)
+
+unless-then : (d e : Decision) → unlessDisabled d e ≡ enabled → e ≡ enabled
+unfolding unlessDisabled
+unless-then disabled e k = absurd (let z : _≡_ {A = ℕ} 0 1 = cc in omega arith)
+unless-then enabled e k = k
+
+pub value-fresh : (i : Decision) (l : Allowlist) (own : Origin) → value i (some l) own fresh ≡ enabled → l ≡ all
+unfolding value valueBy byList
+value-fresh i l own e =
+    fresh-list l own (decided-yes (allows l own fresh) (rw (some-allows l own fresh) at (unless-then i (byList (someAdmits (some l) (sameOrigin own fresh) fresh) enabled) e)))
+
+-- and in the attribute, whatever the declared origin is
+pub inherited-fresh : (c d : Decision) (l : attribute.Allowlist) (default : Option Default) (container declared : Origin) → inheritedFramed c d (some l) default container declared fresh ≡ enabled → l ≡ attribute.Allowlist.all
+unfolding inheritedFramed inheritedBy byList attributeAdmits
+inherited-fresh c d l default container declared e =
+    let k = decided (attribute.allows l container declared fresh) in
+    fresh-all l container declared (decided-yes (attribute.allows l container declared fresh) (unless-then d k (unless-then c (unlessDisabled d k) e)))
 
 -- what stays Enabled: decisions put together from decisions that do
 pub stays-self : (d : Decision) → Stays d d
@@ -250,6 +287,23 @@ below-same p q (suc k) h = rw (below-same p q k (λ n lt. h n (omega arith)), h 
 
 pub mask-same : (p q : ℕ → Decision) → ((n : ℕ) → n < featureCount → p n ≡ q n) → maskOf p ≡ maskOf q
 mask-same p q h = below-same p q featureCount h
+
+-- a number with no bit from 17 on is the number of its bits
+bit-read : (b : ℕ) → b < 2 → bitOf (decided (eqb b 1)) ≡ b
+unfolding decided
+bit-read zero h = refl
+bit-read (suc zero) h = refl
+bit-read (suc (suc b)) h = absurd (omega arith)
+
+below-back : (m k : ℕ) → maskBelow (decisionAt m) k ≡ m % 2 ^ k
+unfolding maskBelow decisionAt
+below-back m zero = sym (mod-one m)
+below-back m (suc k) =
+    rw (below-back m k, bit-read (m / 2 ^ k % 2) (mod-lt (m / 2 ^ k) (omega arith)))
+    (add-comm (m % 2 ^ k) (m / 2 ^ k % 2 * 2 ^ k) ∙ sym (mod-pow-add m 1 k) ∙ ap (λ (j : ℕ). m % 2 ^ j) (let e : 1 + k ≡ suc k = omega arith in e))
+
+pub mask-back : (m : ℕ) → m < 2 ^ featureCount → maskOf (decisionAt m) ≡ m
+mask-back m h = below-back m featureCount ∙ mod-eq-of-lt h
 
 -- the features enabled at a document's own origin, bit by bit, and a forecast
 pub enabled-at : (p : Policy) (n : ℕ) → n < featureCount → decisionAt (enabledMask p) n ≡ questionIn p n (p .own)
