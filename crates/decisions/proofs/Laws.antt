@@ -1,0 +1,334 @@
+-- The laws of decisions, for the crates above: nothing there opens a definition of this crate. Assumes nothing.
+use mathlib.Core.Path.{_≡_, refl, ap, _∙_, sym, subst}
+use Prim.Native.Nat.{ℕ, zero, suc, _+_, _*_, _^_, _/_, _%_, _<_, _≤_}
+use mathlib.Core.List.{List}
+use mathlib.Core.Bool.{Bool, true, false}
+use mathlib.Core.Option.{Option, some, none}
+use native.Mathlib.Nat.{add-comm, mod-one, mod-lt, mod-eq-of-lt}
+use native.Mathlib.Omega.{arith}
+use lib.Pow.{mod-pow-add}
+use lib.Dec.{ltb, eqb}
+use borrow.Author.Tests.{ltb-true, ltb-false}
+use Rattle.features.specs.Features.{Default, featureCount, defaultOf}
+use Rattle.features.specs.Features.Default.{star, self}
+use Rattle.features.specs.Answers.{defaultAs}
+use Rattle.features.specs.declared.DefaultOf.{DefaultOf}
+use Rattle.origins.specs.Origins.{Origin, TupleOrigin}
+use Rattle.origins.specs.Origins.Origin.{tuple, opaque, fresh}
+use Rattle.origins.specs.Matching.{sameOrigin}
+use Rattle.origins.specs.Answers.{originIn}
+use Rattle.origins.specs.declared.OriginRange.{OriginRange}
+use Rattle.origins.proofs.Laws.{tuple-self, opaque-self, fresh-left}
+use Rattle.declarations.specs.Allowlists.{Allowlist, allows}
+use Rattle.declarations.specs.Allowlists.Allowlist.{all, listed}
+use Rattle.declarations.specs.Settings.{settingAs, someAdmits, admissionAs}
+use Rattle.declarations.specs.Widening.{Wider, DeclaresMore}
+use Rattle.declarations.specs.Widening.DeclaresMore.{neither, both}
+use Rattle.declarations.specs.declared.Setting.{Setting}
+use Rattle.declarations.specs.declared.Admission.{Admission}
+use Rattle.declarations.proofs.Laws.{some-allows, none-allows, more-self, listed-fresh}
+use Rattle.containers.specs.Allowlists as attribute
+use Rattle.containers.proofs.Laws.{fresh-all}
+use Rattle.containers.specs.Answers.{policyIn}
+use Rattle.containers.specs.Widening.{AllowsMore}
+use Rattle.containers.specs.Widening as widening
+use Rattle.containers.specs.declared.ContainerPolicy.{ContainerPolicy}
+use Rattle.decisions.specs.Decisions.{Decision, decided, unlessDisabled, byList, byDefault, valueBy, inheritedBy, questionBy}
+use Rattle.decisions.specs.Decisions.Decision.{disabled, enabled}
+use Rattle.decisions.specs.Masks.{bitOf, maskBelow, maskOf, decisionAt}
+use Rattle.decisions.specs.Policies.{Policy, Frame, attributeAdmits, value, inheritedFramed, question, valueIn, questionIn, inheritedIn, enabledMask, forecast}
+use Rattle.decisions.specs.Widening.{Stays, WiderPolicy, WiderFrame}
+use Rattle.decisions.specs.Answers.{decisionIn, admissionIn, attributeIn, decisionsIn}
+use Rattle.decisions.specs.declared.Decision.{Decision as Answer}
+use Rattle.decisions.specs.declared.AttributeAnswer.{AttributeAnswer}
+use Rattle.decisions.proofs.Masks.{mask-lt, mask-bit, bits-past}
+
+-- what `admits` answered, read again
+admission-back : (x : Option Bool) → admissionIn (admissionAs x) ≡ x
+admission-back (some true) = refl
+admission-back (some false) = refl
+admission-back none = refl
+
+-- the answer of `value`, told what `declarations::admits` answered for a setting, is *Value* of the list that the setting says
+module _ (s t : List ℕ) (d : Setting) (own : Origin) (o : OriginRange) (same : Bool) (a : Admission) (i r : Answer)
+    (is-same : same ≡ sameOrigin own (originIn t o))
+    (admitted : a ≡ admissionAs (someAdmits (settingAs s d) same (originIn t o))) where
+  answered : admissionIn a ≡ someAdmits (settingAs s d) (sameOrigin own (originIn t o)) (originIn t o)
+  answered = ap admissionIn admitted ∙ admission-back (someAdmits (settingAs s d) same (originIn t o)) ∙ ap (λ (b : Bool). someAdmits (settingAs s d) b (originIn t o)) is-same
+
+  pub value-says : decisionIn r ≡ valueBy (decisionIn i) (admissionIn a) → decisionIn r ≡ value (decisionIn i) (settingAs s d) own (originIn t o)
+  unfolding value
+  value-says is = is ∙ ap (valueBy (decisionIn i)) answered
+
+  -- and that of `question` is *Question*
+  pub question-says : (default : DefaultOf) → decisionIn r ≡ questionBy (decisionIn i) (admissionIn a) (defaultAs default) same → decisionIn r ≡ question (decisionIn i) (settingAs s d) (defaultAs default) own (originIn t o)
+  unfolding question
+  question-says default is =
+      is
+      ∙ ap (λ (x : Option Bool). questionBy (decisionIn i) x (defaultAs default) same) answered
+      ∙ ap (questionBy (decisionIn i) (someAdmits (settingAs s d) (sameOrigin own (originIn t o)) (originIn t o)) (defaultAs default)) is-same
+
+-- the answer of `inherited`, told what `attribute_admits` answered for a container policy, is *Inherited* of the list that the policy says
+module _ (s t : List ℕ) (p : ContainerPolicy) (container declared : Origin) (o : OriginRange) (container-same declared-same : Bool) (x : AttributeAnswer)
+    (is-container : container-same ≡ sameOrigin container (originIn t o))
+    (is-declared : declared-same ≡ sameOrigin declared (originIn t o))
+    (admitted : attributeIn x ≡ attributeAdmits (policyIn s p) container-same declared-same (originIn t o)) where
+  pub inherited-says : (valueOwn valueArriving r : Answer) (default : DefaultOf) → decisionIn r ≡ inheritedBy (decisionIn valueOwn) (decisionIn valueArriving) (attributeIn x) (defaultAs default) container-same
+      → decisionIn r ≡ inheritedFramed (decisionIn valueOwn) (decisionIn valueArriving) (policyIn s p) (defaultAs default) container declared (originIn t o)
+  unfolding inheritedFramed
+  inherited-says valueOwn valueArriving r default is = rw (← is-container, ← is-declared, ← admitted) is
+
+-- at the own origin of a document *Question* and *Value* agree
+own-default : (default : Option Default) → byDefault default true ≡ enabled
+unfolding byDefault decided
+own-default (some star) = refl
+own-default (some self) = refl
+own-default none = refl
+
+pub own-agrees : (inherited : Decision) (declared : Option Allowlist) (default : Option Default) (own : Origin) → sameOrigin own own ≡ true → question inherited declared default own own ≡ value inherited declared own own
+unfolding question value questionBy valueBy
+own-agrees inherited declared default own e = rw (e, own-default default)
+
+-- the origin of a document, which is never fresh, equals itself
+pub document-self : (o : Origin) → (o ≡ fresh → ⊥) → sameOrigin o o ≡ true
+document-self (tuple x) h = tuple-self x
+document-self (opaque n) h = opaque-self n
+document-self fresh h = absurd (h refl)
+
+-- Disabled inherited is Disabled for every origin
+pub value-disabled : (declared : Option Allowlist) (own o : Origin) → value disabled declared own o ≡ disabled
+unfolding value valueBy unlessDisabled
+value-disabled declared own o = refl
+
+pub question-disabled : (declared : Option Allowlist) (default : Option Default) (own o : Origin) → question disabled declared default own o ≡ disabled
+unfolding question questionBy unlessDisabled
+question-disabled declared default own o = refl
+
+-- a container's value that is Disabled for its own origin, or for the arriving one, is Disabled inherited, whatever the attributes say
+pub inherited-own : (valueArriving : Decision) (allowed : Option attribute.Allowlist) (default : Option Default) (container declared arriving : Origin) → inheritedFramed disabled valueArriving allowed default container declared arriving ≡ disabled
+unfolding inheritedFramed inheritedBy unlessDisabled
+inherited-own valueArriving allowed default container declared arriving = refl
+
+pub inherited-arriving : (valueOwn : Decision) (allowed : Option attribute.Allowlist) (default : Option Default) (container declared arriving : Origin) → inheritedFramed valueOwn disabled allowed default container declared arriving ≡ disabled
+unfolding inheritedFramed inheritedBy unlessDisabled
+inherited-arriving disabled allowed default container declared arriving = refl
+inherited-arriving enabled allowed default container declared arriving = refl
+
+-- for a document: own-agrees and the two above
+module _ (p : Policy) (n : ℕ) where
+  pub own-agrees-in : sameOrigin (p .own) (p .own) ≡ true → questionIn p n (p .own) ≡ valueIn p n (p .own)
+  unfolding questionIn valueIn
+  own-agrees-in e = own-agrees (p .inherited n) (p .declared n) (defaultOf n) (p .own) e
+
+  -- what inherits Disabled is Disabled for every origin
+  pub disabled-question : (o : Origin) → p .inherited n ≡ disabled → questionIn p n o ≡ disabled
+  unfolding questionIn
+  disabled-question o e = rw e (question-disabled (p .declared n) (defaultOf n) (p .own) o)
+
+  pub disabled-value : (o : Origin) → p .inherited n ≡ disabled → valueIn p n o ≡ disabled
+  unfolding valueIn
+  disabled-value o e = rw e (value-disabled (p .declared n) (p .own) o)
+
+  -- a value that is Disabled for the own origin is Disabled inherited in every frame, whatever arrives there
+  pub value-below : (f : Frame) (arriving : Origin) → valueIn p n (p .own) ≡ disabled → inheritedIn p f arriving n ≡ disabled
+  unfolding inheritedIn
+  value-below f arriving e = rw e (inherited-own (valueIn p n arriving) (f .allowed n) (defaultOf n) (p .own) (f .declared) arriving)
+
+  -- and so is a question that is
+  pub question-below : (f : Frame) (arriving : Origin) → sameOrigin (p .own) (p .own) ≡ true → questionIn p n (p .own) ≡ disabled → inheritedIn p f arriving n ≡ disabled
+  question-below f arriving own e = value-below f arriving (sym (own-agrees-in own) ∙ e)
+
+  -- what inherits Disabled hands Disabled on
+  pub disabled-below : (f : Frame) (arriving : Origin) → p .inherited n ≡ disabled → inheritedIn p f arriving n ≡ disabled
+  disabled-below f arriving e = value-below f arriving (disabled-value (p .own) e)
+
+-- a fresh origin is admitted only by `*`: in the container's header
+decided-yes : (b : Bool) → decided b ≡ enabled → b ≡ true
+unfolding decided
+decided-yes true e = refl
+decided-yes false e = absurd (let z : _≡_ {A = ℕ} 0 1 = cc in omega arith)
+
+fresh-list : (l : Allowlist) (own : Origin) → allows l own fresh ≡ true → l ≡ all
+fresh-list all own e = refl
+fresh-list (listed b es) own e = absurd (let f : allows (listed b es) own fresh ≡ false = listed-fresh b es own in let z : _≡_ {A = ℕ} 0 1 = cc in omega arith)
+
+unless-then : (d e : Decision) → unlessDisabled d e ≡ enabled → e ≡ enabled
+unfolding unlessDisabled
+unless-then disabled e k = absurd (let z : _≡_ {A = ℕ} 0 1 = cc in omega arith)
+unless-then enabled e k = k
+
+pub value-fresh : (i : Decision) (l : Allowlist) (own : Origin) → value i (some l) own fresh ≡ enabled → l ≡ all
+unfolding value valueBy byList
+value-fresh i l own e =
+    fresh-list l own (decided-yes (allows l own fresh) (rw (some-allows l own fresh) at (unless-then i (byList (someAdmits (some l) (sameOrigin own fresh) fresh) enabled) e)))
+
+-- and in the attribute, whatever the declared origin is
+pub inherited-fresh : (c d : Decision) (l : attribute.Allowlist) (default : Option Default) (container declared : Origin) → inheritedFramed c d (some l) default container declared fresh ≡ enabled → l ≡ attribute.Allowlist.all
+unfolding inheritedFramed inheritedBy byList attributeAdmits
+inherited-fresh c d l default container declared e =
+    let k = decided (attribute.allows l container declared fresh) in
+    fresh-all l container declared (decided-yes (attribute.allows l container declared fresh) (unless-then d k (unless-then c (unlessDisabled d k) e)))
+
+-- what stays Enabled: decisions put together from decisions that do
+pub stays-self : (d : Decision) → Stays d d
+stays-self d = record { keeps = λ e. e }
+
+pub stays-on : {c d e : Decision} → Stays c d → Stays d e → Stays c e
+stays-on s t = record { keeps = λ k. t .keeps (s .keeps k) }
+
+unless-keeps : (c d e f : Decision) → (c ≡ enabled → d ≡ enabled) → (e ≡ enabled → f ≡ enabled) → unlessDisabled c e ≡ enabled → unlessDisabled d f ≡ enabled
+unfolding unlessDisabled
+unless-keeps disabled d e f h g k = absurd (let z : _≡_ {A = ℕ} 0 1 = cc in omega arith)
+unless-keeps enabled d e f h g k = rw (h refl) (g k)
+
+unless-stays : {c d e f : Decision} → Stays c d → Stays e f → Stays (unlessDisabled c e) (unlessDisabled d f)
+unless-stays {c} {d} {e} {f} h g = record { keeps = unless-keeps c d e f (λ k. h .keeps k) (λ k. g .keeps k) }
+
+-- two answers of lists: neither has one, or both have and the second admits if the first does
+data Follows : Option Bool → Option Bool → Type 0 where
+  no-lists : Follows none none
+  lists : {a b : Bool} → (a ≡ true → b ≡ true) → Follows (some a) (some b)
+
+decided-keeps : (a b : Bool) → (a ≡ true → b ≡ true) → decided a ≡ enabled → decided b ≡ enabled
+unfolding decided
+decided-keeps true b h k = rw (h refl)
+decided-keeps false b h k = absurd (let z : _≡_ {A = ℕ} 0 1 = cc in omega arith)
+
+list-stays : {a b : Option Bool} (d : Decision) → Follows a b → Stays (byList a d) (byList b d)
+unfolding byList
+list-stays d no-lists = stays-self d
+list-stays d (lists {a} {b} h) = record { keeps = decided-keeps a b h }
+
+declared-follows : {a b : Option Allowlist} (own o : Origin) → DeclaresMore a b → Follows (someAdmits a (sameOrigin own o) o) (someAdmits b (sameOrigin own o) o)
+declared-follows own o neither = rw (none-allows (sameOrigin own o) o) no-lists
+declared-follows own o (both {l} {m} w) = rw (some-allows l own o, some-allows m own o) (lists (λ e. w .keeps own o e))
+
+allowed-follows : {a b : Option attribute.Allowlist} (container declared o : Origin) → AllowsMore a b → Follows (attributeAdmits a (sameOrigin container o) (sameOrigin declared o) o) (attributeAdmits b (sameOrigin container o) (sameOrigin declared o) o)
+unfolding attributeAdmits
+allowed-follows container declared o widening.AllowsMore.neither = no-lists
+allowed-follows container declared o (widening.AllowsMore.both w) = lists (λ e. w .keeps container declared o e)
+
+-- *Value* is monotone in what is inherited and declared
+pub value-stays : {i j : Decision} {a b : Option Allowlist} (own o : Origin) → Stays i j → DeclaresMore a b → Stays (value i a own o) (value j b own o)
+unfolding value valueBy
+value-stays own o h more = unless-stays h (list-stays enabled (declared-follows own o more))
+
+-- *Question* is, too
+pub question-stays : {i j : Decision} {a b : Option Allowlist} (default : Option Default) (own o : Origin) → Stays i j → DeclaresMore a b → Stays (question i a default own o) (question j b default own o)
+unfolding question questionBy
+question-stays default own o h more = unless-stays h (list-stays (byDefault default (sameOrigin own o)) (declared-follows own o more))
+
+-- *Inherited* is monotone in the container's values and in the attribute's list
+pub inherited-stays : {c d e f : Decision} {a b : Option attribute.Allowlist} (default : Option Default) (container declared arriving : Origin) → Stays c d → Stays e f → AllowsMore a b
+    → Stays (inheritedFramed c e a default container declared arriving) (inheritedFramed d f b default container declared arriving)
+unfolding inheritedFramed inheritedBy
+inherited-stays default container declared arriving h g more =
+    unless-stays h (unless-stays g (list-stays (byDefault default (sameOrigin container arriving)) (allowed-follows container declared arriving more)))
+
+-- what is the same is as wide
+pub wider-self : (p : Policy) → WiderPolicy p p
+wider-self p = record { own = refl; inherits = λ n. stays-self (p .inherited n); declares = λ n. more-self (p .declared n) }
+
+allows-self : (l : Option attribute.Allowlist) → AllowsMore l l
+allows-self (some l) = widening.AllowsMore.both (record { keeps = λ container declared o e. e })
+allows-self none = widening.AllowsMore.neither
+
+pub frame-self : (f : Frame) → WiderFrame f f
+frame-self f = record { declared = refl; allows = λ n. allows-self (f .allowed n) }
+
+-- the same of a document: a wider policy keeps what is Enabled
+module _ (p q : Policy) (wide : WiderPolicy p q) where
+  pub value-in-stays : (n : ℕ) (o : Origin) → Stays (valueIn p n o) (valueIn q n o)
+  unfolding valueIn
+  value-in-stays n o = rw (← wide .own) (value-stays (p .own) o (wide .inherits n) (wide .declares n))
+
+  pub question-in-stays : (n : ℕ) (o : Origin) → Stays (questionIn p n o) (questionIn q n o)
+  unfolding questionIn
+  question-in-stays n o = rw (← wide .own) (question-stays (defaultOf n) (p .own) o (wide .inherits n) (wide .declares n))
+
+  -- and in its frames, with wider attributes too
+  pub inherited-in-stays : (f g : Frame) → WiderFrame f g → (arriving : Origin) (n : ℕ) → Stays (inheritedIn p f arriving n) (inheritedIn q g arriving n)
+  unfolding inheritedIn
+  inherited-in-stays f g frames arriving n =
+      subst (λ (own : Origin). Stays (inheritedIn p f arriving n) (inheritedFramed (valueIn q n own) (valueIn q n arriving) (g .allowed n) (defaultOf n) own (g .declared) arriving)) (wide .own)
+      (subst (λ (declared : Origin). Stays (inheritedIn p f arriving n) (inheritedFramed (valueIn q n (p .own)) (valueIn q n arriving) (g .allowed n) (defaultOf n) (p .own) declared arriving)) (frames .declared)
+      (inherited-stays (defaultOf n) (p .own) (f .declared) arriving (value-in-stays n (p .own)) (value-in-stays n arriving) (frames .allows n)))
+
+-- bit n of the number is decision n
+bit-decides : (d : Decision) → decided (eqb (bitOf d) 1) ≡ d
+unfolding decided
+bit-decides disabled = refl
+bit-decides enabled = refl
+
+pub mask-at : (p : ℕ → Decision) (n : ℕ) → n < featureCount → decisionAt (maskOf p) n ≡ p n
+unfolding decisionAt
+mask-at p n h = rw (mask-bit p featureCount n h) (bit-decides (p n))
+
+-- "no other bit": each from 17 on is clear
+pub mask-past : (p : ℕ → Decision) (n : ℕ) → featureCount ≤ n → decisionAt (maskOf p) n ≡ disabled
+mask-past p n h = bits-past (maskOf p) n featureCount (mask-lt p featureCount) h
+
+pub mask-below : (p : ℕ → Decision) → maskOf p < 2 ^ featureCount
+mask-below p = mask-lt p featureCount
+
+-- each bit stays set where each decision stays Enabled
+pub mask-stays : (p q : ℕ → Decision) → ((n : ℕ) → Stays (p n) (q n)) → (n : ℕ) → Stays (decisionAt (maskOf p) n) (decisionAt (maskOf q) n)
+mask-stays p q h n = go (ltb n featureCount) refl
+  where
+    go : (b : Bool) → ltb n featureCount ≡ b → Stays (decisionAt (maskOf p) n) (decisionAt (maskOf q) n)
+    go true e = let low : n < featureCount = omega (arith, ltb-true) in rw (mask-at p n low, mask-at q n low) (h n)
+    go false e = let high : featureCount ≤ n = omega (arith, ltb-false) in rw (mask-past p n high, mask-past q n high) (stays-self disabled)
+
+-- the same decisions are the same number
+below-same : (p q : ℕ → Decision) (k : ℕ) → ((n : ℕ) → n < k → p n ≡ q n) → maskBelow p k ≡ maskBelow q k
+unfolding maskBelow
+below-same p q zero h = refl
+below-same p q (suc k) h = rw (below-same p q k (λ n lt. h n (omega arith)), h k (omega arith))
+
+pub mask-same : (p q : ℕ → Decision) → ((n : ℕ) → n < featureCount → p n ≡ q n) → maskOf p ≡ maskOf q
+mask-same p q h = below-same p q featureCount h
+
+-- a number with no bit from 17 on is the number of its bits
+bit-read : (b : ℕ) → b < 2 → bitOf (decided (eqb b 1)) ≡ b
+unfolding decided
+bit-read zero h = refl
+bit-read (suc zero) h = refl
+bit-read (suc (suc b)) h = absurd (omega arith)
+
+below-back : (m k : ℕ) → maskBelow (decisionAt m) k ≡ m % 2 ^ k
+unfolding maskBelow decisionAt
+below-back m zero = sym (mod-one m)
+below-back m (suc k) =
+    rw (below-back m k, bit-read (m / 2 ^ k % 2) (mod-lt (m / 2 ^ k) (omega arith)))
+    (add-comm (m % 2 ^ k) (m / 2 ^ k % 2 * 2 ^ k) ∙ sym (mod-pow-add m 1 k) ∙ ap (λ (j : ℕ). m % 2 ^ j) (let e : 1 + k ≡ suc k = omega arith in e))
+
+pub mask-back : (m : ℕ) → m < 2 ^ featureCount → maskOf (decisionAt m) ≡ m
+mask-back m h = below-back m featureCount ∙ mod-eq-of-lt h
+
+-- the features enabled at a document's own origin, bit by bit, and a forecast
+pub enabled-at : (p : Policy) (n : ℕ) → n < featureCount → decisionAt (enabledMask p) n ≡ questionIn p n (p .own)
+unfolding enabledMask
+enabled-at p n h = mask-at (λ k. questionIn p k (p .own)) n h
+
+pub enabled-past : (p : Policy) (n : ℕ) → featureCount ≤ n → decisionAt (enabledMask p) n ≡ disabled
+unfolding enabledMask
+enabled-past p n h = mask-past (λ k. questionIn p k (p .own)) n h
+
+pub forecast-at : (p : Policy) (f : Frame) (n : ℕ) → n < featureCount → decisionAt (forecast p f) n ≡ inheritedIn p f (f .declared) n
+unfolding forecast
+forecast-at p f n h = mask-at (λ k. inheritedIn p f (f .declared) k) n h
+
+pub forecast-past : (p : Policy) (f : Frame) (n : ℕ) → featureCount ≤ n → decisionAt (forecast p f) n ≡ disabled
+unfolding forecast
+forecast-past p f n h = mask-past (λ k. inheritedIn p f (f .declared) k) n h
+
+-- no bit of either falls with a wider policy
+pub enabled-stays : (p q : Policy) → WiderPolicy p q → (n : ℕ) → Stays (decisionAt (enabledMask p) n) (decisionAt (enabledMask q) n)
+unfolding enabledMask
+enabled-stays p q wide n =
+    mask-stays (λ k. questionIn p k (p .own)) (λ k. questionIn q k (q .own)) (λ k. subst (λ (o : Origin). Stays (questionIn p k (p .own)) (questionIn q k o)) (wide .own) (question-in-stays p q wide k (p .own))) n
+
+pub forecast-stays : (p q : Policy) (f g : Frame) → WiderPolicy p q → WiderFrame f g → (n : ℕ) → Stays (decisionAt (forecast p f) n) (decisionAt (forecast q g) n)
+unfolding forecast
+forecast-stays p q f g wide frames n =
+    mask-stays (λ k. inheritedIn p f (f .declared) k) (λ k. inheritedIn q g (g .declared) k) (λ k. subst (λ (o : Origin). Stays (inheritedIn p f (f .declared) k) (inheritedIn q g o k)) (frames .declared) (inherited-in-stays p q wide f g frames (f .declared) k)) n

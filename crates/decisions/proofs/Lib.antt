@@ -1,0 +1,3 @@
+pub mod Falls
+pub mod Masks
+pub mod Laws

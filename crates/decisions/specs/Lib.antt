@@ -1,0 +1,6 @@
+pub mod Decisions
+pub mod Masks
+pub mod Policies
+pub mod Widening
+pub mod Answers
+pub mod Examples

@@ -1,0 +1,24 @@
+-- Demand 3: when what is Enabled stays Enabled.
+use Prim.Native.Nat.{ℕ}
+use mathlib.Core.Path.{_≡_}
+use Rattle.origins.specs.Origins.{Origin}
+use Rattle.declarations.specs.Widening.{DeclaresMore}
+use Rattle.containers.specs.Widening.{AllowsMore}
+use Rattle.decisions.specs.Decisions.{Decision}
+use Rattle.decisions.specs.Decisions.Decision.{enabled}
+use Rattle.decisions.specs.Policies.{Policy, Frame}
+
+-- Enabled at first, and then Enabled too
+pub record Stays (d e : Decision) : Type 0 where
+  pub keeps : d ≡ enabled → e ≡ enabled
+
+-- two policies of a document at one origin, the second at least as wide: no decision that is inherited falls, and no list admits less
+pub record WiderPolicy (p q : Policy) : Type 0 where
+  pub own : p .own ≡ q .own
+  pub inherits : (n : ℕ) → Stays (p .inherited n) (q .inherited n)
+  pub declares : (n : ℕ) → DeclaresMore (p .declared n) (q .declared n)
+
+-- two frames with one declared origin, the second at least as wide
+pub record WiderFrame (f g : Frame) : Type 0 where
+  pub declared : f .declared ≡ g .declared
+  pub allows : (n : ℕ) → AllowsMore (f .allowed n) (g .allowed n)

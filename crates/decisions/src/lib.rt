@@ -1,0 +1,163 @@
+// Value, inherited and question of a feature, told what the lists answer; and the decisions of the seventeen features as one number.
+ghost use mathlib.Core.Path.{_≡_};
+ghost use Rattle.features.specs.Answers.{defaultAs};
+ghost use Rattle.origins.specs.Answers.{originIn};
+ghost use Rattle.containers.specs.Answers.{policyIn};
+ghost use Rattle.decisions.specs.Decisions.{decided, byList, byDefault, valueBy, inheritedBy, questionBy};
+ghost use Rattle.decisions.specs.Masks.{maskOf, decisionAt};
+ghost use Rattle.decisions.specs.Policies.{attributeAdmits};
+ghost use Rattle.decisions.specs.Answers.{decisionIn, admissionIn, attributeIn, decisionsIn};
+use containers::ContainerPolicy;
+use declarations::Admission;
+use features::DefaultOf;
+use origins::OriginRange;
+
+pub enum Decision {
+    Disabled,
+    Enabled,
+}
+
+// Whether the list that a frame's attributes give a feature admits an origin.
+pub enum AttributeAnswer {
+    None,
+    Admitted,
+    NotAdmitted,
+}
+
+// What the attributes of a frame answer for an origin; the marks: it is the container's, it is the declared one.
+pub fn attribute_admits(
+    allow: &[u8],
+    policy: ContainerPolicy,
+    container_same: bool,
+    declared_same: bool,
+    t: &[u8],
+    o: OriginRange,
+) -> AttributeAnswer
+    ensures { λ r. ⌜ attributeIn r ≡ attributeAdmits (policyIn (now (allow .entry)) policy) «container_same» «declared_same» (originIn (now (t .entry)) o) ⌝ }
+{
+    match policy {
+        ContainerPolicy::None => AttributeAnswer::None,
+        ContainerPolicy::All => AttributeAnswer::Admitted,
+        ContainerPolicy::Words(w) => {
+            if containers::entry_admits(allow, w, container_same, declared_same, t, o) {
+                AttributeAnswer::Admitted
+            } else {
+                AttributeAnswer::NotAdmitted
+            }
+        }
+    }
+}
+
+// Enabled where a test passes.
+fn decided(yes: bool) -> Decision
+    ensures { λ r. ⌜ decisionIn r ≡ decided yes ⌝ }
+{
+    if yes {
+        Decision::Enabled
+    } else {
+        Decision::Disabled
+    }
+}
+
+// By the default list; `same`: the origin is the own one.
+fn by_default(default: DefaultOf, same: bool) -> Decision
+    ensures { λ r. ⌜ decisionIn r ≡ byDefault (defaultAs default) same ⌝ }
+{
+    match default {
+        DefaultOf::All => Decision::Enabled,
+        DefaultOf::SelfOnly => decided(same),
+        DefaultOf::NoSuchFeature => decided(same),
+    }
+}
+
+// The value of a feature in a document for an origin: by what is inherited, and by what the declared list answers for that origin.
+pub fn value(inherited: Decision, declared: Admission) -> Decision
+    ensures { λ r. ⌜ decisionIn r ≡ valueBy (decisionIn inherited) (admissionIn declared) ⌝ }
+{
+    match inherited {
+        Decision::Disabled => Decision::Disabled,
+        Decision::Enabled => match declared {
+            Admission::Undeclared => Decision::Enabled,
+            Admission::Admitted => Decision::Enabled,
+            Admission::NotAdmitted => Decision::Disabled,
+        },
+    }
+}
+
+// What decides about a framed document: the container's values for its own and for the arriving origin, what the frame's list
+// answers for the arriving origin, the feature's default, and whether the arriving origin is the container's own.
+pub struct Framed {
+    pub value_own: Decision,
+    pub value_arriving: Decision,
+    pub allowed: AttributeAnswer,
+    pub default: DefaultOf,
+    pub same: bool,
+}
+
+// What a framed document inherits for a feature.
+pub fn inherited(f: Framed) -> Decision
+    ensures { λ r. ⌜ decisionIn r ≡ inheritedBy (decisionIn (f .«value_own»)) (decisionIn (f .«value_arriving»)) (attributeIn (f .allowed)) (defaultAs (f .default)) (f .same) ⌝ }
+{
+    let own = f.value_own;
+    let arriving = f.value_arriving;
+    let allowed = f.allowed;
+    let default = f.default;
+    match own {
+        Decision::Disabled => Decision::Disabled,
+        Decision::Enabled => match arriving {
+            Decision::Disabled => Decision::Disabled,
+            Decision::Enabled => match allowed {
+                AttributeAnswer::None => by_default(default, f.same),
+                AttributeAnswer::Admitted => Decision::Enabled,
+                AttributeAnswer::NotAdmitted => Decision::Disabled,
+            },
+        },
+    }
+}
+
+// The question of a feature in a document for an origin; `same`: it is the document's own.
+pub fn question(inherited: Decision, declared: Admission, default: DefaultOf, same: bool) -> Decision
+    ensures { λ r. ⌜ decisionIn r ≡ questionBy (decisionIn inherited) (admissionIn declared) (defaultAs default) same ⌝ }
+{
+    match inherited {
+        Decision::Disabled => Decision::Disabled,
+        Decision::Enabled => match declared {
+            Admission::Undeclared => by_default(default, same),
+            Admission::Admitted => Decision::Enabled,
+            Admission::NotAdmitted => Decision::Disabled,
+        },
+    }
+}
+
+// The decisions of the seventeen features as one number: bit n for feature n, and no other bit.
+pub fn mask(decisions: [Decision; features::COUNT]) -> u32
+    ensures { λ r. ⌜ r ≡ maskOf (decisionsIn decisions) ⌝ }
+{
+    let mut r: u32 = 0;
+    let mut i: u32 = 0;
+    while i < features::COUNT as u32 {
+        let k = i as usize;
+        let d = decisions[k];
+        match d {
+            Decision::Enabled => {
+                r = r | (1u32 << i);
+                i += 1;
+            }
+            Decision::Disabled => {
+                i += 1;
+            }
+        }
+    }
+    r
+}
+
+// The decision of bit n in a number: Enabled where it is set; a number has no bit past 31.
+pub fn decision_at(mask: u32, n: u32) -> Decision
+    ensures { λ r. ⌜ decisionIn r ≡ decisionAt mask n ⌝ }
+{
+    if n < 32 {
+        decided((mask >> n) % 2 == 1)
+    } else {
+        Decision::Disabled
+    }
+}
