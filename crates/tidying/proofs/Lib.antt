@@ -1,2 +1,6 @@
 pub mod Copies
 pub mod Growing
+pub mod Forms
+pub mod Spellings
+pub mod Passing
+pub mod Listing
