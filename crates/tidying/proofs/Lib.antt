@@ -4,3 +4,5 @@ pub mod Forms
 pub mod Spellings
 pub mod Passing
 pub mod Listing
+pub mod Members
+pub mod Answering

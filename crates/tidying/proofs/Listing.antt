@@ -28,7 +28,7 @@ use Rattle.declarations.specs.declared.ItemMeaning.the-variants as meaning
 use Rattle.declarations.proofs.Meanings.{adds-all, adds-own, adds-nothing, adds-source}
 use Rattle.tidying.specs.Tidied.{among, unless, onceAfter, sourceItem}
 use Rattle.tidying.specs.Writing.{Adding}
-use Rattle.tidying.specs.Steps.{Spelling, Before, IsSeen, ItemAdded, sourceTexts}
+use Rattle.tidying.specs.Steps.{Spelling, Before, IsSeen, ItemAdded, sourceText, sourceTexts}
 use Rattle.tidying.specs.declared.Added.{Added}
 use Rattle.tidying.proofs.Growing.{adding-on}
 use Rattle.tidying.proofs.Spellings.{spelling-none, spelling-one, spelling-on}
@@ -44,9 +44,16 @@ texts-old : (before : List SourceExpression) (e : SourceExpression) → among (n
 unfolding sourceTexts onceAfter unless
 texts-old before e h = rw h
 
-texts-new : (before : List SourceExpression) (e : SourceExpression) → among (normal e) before ≡ false → sourceTexts before (e ∷ []) ≡ (34 ∷ (normalForm e ++ (34 ∷ []))) ∷ []
-unfolding sourceTexts onceAfter unless itemText
+texts-new : (before : List SourceExpression) (e : SourceExpression) → among (normal e) before ≡ false → sourceTexts before (e ∷ []) ≡ sourceText e ∷ []
+unfolding sourceTexts onceAfter unless
 texts-new before e h = rw h
+
+-- the parts of a string, one after the other
+pub string-parts : (l : List ℕ) (at : ℕ) (any : Bool) (e : SourceExpression) (m n o z : List ℕ) (a c d q : ℕ) → Adding l at (pick any (text " ") []) m a → Adding m a (text "\"") n c → Adding n c (normalForm e) o d → Adding o d (text "\"") z q → Spelling (text " ") l at any (sourceText e ∷ []) z (record { to = q; any = true })
+unfolding itemText
+string-parts l at any e m n o z a c d q u v w y =
+    spelling-one (text " ") l at any m z (text "\"" ++ (normalForm e ++ text "\"")) a q u
+    (adding-on m n z a c q (text "\"") (normalForm e ++ text "\"") v (adding-on n o z c d q (normalForm e) (text "\"") w y))
 
 -- an item's expressions, and then those of the others
 texts-more : (before : List SourceExpression) (m : Meaning) (es : List SourceExpression) → sourceTexts before (withSource m es) ≡ sourceTexts before (withSource m []) ++ sourceTexts (map normal (withSource m []) ++ before) es
@@ -79,15 +86,9 @@ module _ (s : List ℕ) (p : ItemRange) (first upto : ℕ) (l : List ℕ) (at : 
     item-old t =
         record { adds = λ before u. rw (adds-source s p [] r h e x i k, texts-old before (expressionIn x e) (sym (g .is before u) ∙ t)) (spelling-none (text " ") l at any) }
 
-    pub item-new : (m n o z : List ℕ) (a c d q : ℕ) → b ≡ false → Adding l at (pick any (text " ") []) m a → Adding m a (34 ∷ []) n c → Adding n c (normalForm (expressionIn x e)) o d → Adding o d (34 ∷ []) z q → ItemAdded s first upto (withSource (meaningOf (itemAs s p)) []) l at any z (record { to = q; any = true })
-    item-new m n o z a c d q t u v w y =
-        let f = normalForm (expressionIn x e) in
-        record {
-          adds = λ before j.
-          rw
-          (adds-source s p [] r h e x i k, texts-new before (expressionIn x e) (sym (g .is before j) ∙ t))
-          (spelling-one (text " ") l at any m z (34 ∷ (f ++ (34 ∷ []))) a q u (adding-on m n z a c q (34 ∷ []) (f ++ (34 ∷ [])) v (adding-on n o z c d q f (34 ∷ []) w y)));
-        }
+    pub item-new : (z : List ℕ) (y : Added) → b ≡ false → Spelling (text " ") l at any (sourceText (expressionIn x e) ∷ []) z y → ItemAdded s first upto (withSource (meaningOf (itemAs s p)) []) l at any z y
+    item-new z y t u =
+        record { adds = λ before j. rw (adds-source s p [] r h e x i k, texts-new before (expressionIn x e) (sym (g .is before j) ∙ t)) u }
 
 -- a list, cursor by cursor: what was written, and what is left
 pub record Listing (s : List ℕ) (first c : ℕ) (l : List ℕ) (at : ℕ) (any : Bool) (m : List ℕ) (x : Added) : Type 0 where

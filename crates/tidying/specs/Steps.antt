@@ -60,6 +60,10 @@ pub record Before (s : List ℕ) (c d : ℕ) (before : List SourceExpression) : 
 pub record IsSeen (s : List ℕ) (first upto : ℕ) (e : SourceExpression) (r : Bool) : Type 0 where
   pub is : (before : List SourceExpression) → Before s first upto before → r ≡ among (normal e) before
 
+-- an expression's normal form as a string
+abbrev pub sourceText : SourceExpression → List ℕ
+sourceText e = itemText (sourceItem (normal e))
+
 -- expressions as they are written, each once, but for those that stand before
 unfoldable pub sourceTexts : List SourceExpression → List SourceExpression → List (List ℕ)
 sourceTexts before es = map itemText (map sourceItem (onceAfter before (map normal es)))

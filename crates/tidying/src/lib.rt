@@ -1,6 +1,6 @@
 // Tidied headers: written into a buffer of the limit's size, then copied to the lent run.
 ghost use mathlib.Core.Path.{_≡_};
-ghost use mathlib.Core.List.{[], map};
+ghost use mathlib.Core.List.{[], _∷_, map};
 ghost use Prim.Native.Nat.{_+_, _≤_};
 ghost use lib.ListN.{length};
 ghost use Rattle.limits.specs.Limits.{textBytes};
@@ -18,7 +18,7 @@ ghost use Rattle.declarations.specs.Settings.{itemsAt, settingAs, IsSettled};
 ghost use Rattle.tidying.specs.Tidied.{among, withMember, tidied};
 ghost use Rattle.tidying.specs.Writing.{Adding};
 ghost use Rattle.tidying.specs.Answers.{IsTidied};
-ghost use Rattle.tidying.specs.Steps.{IsPut, Spelling, IsSeen, ItemAdded, sourceTexts, listOf};
+ghost use Rattle.tidying.specs.Steps.{IsPut, Spelling, IsSeen, ItemAdded, sourceText, sourceTexts, listOf};
 use declarations::Cursor;
 use declarations::ItemMeaning;
 use declarations::Setting;
@@ -219,7 +219,19 @@ fn seen(s: &[u8], first: usize, upto: usize, x: &[u8], e: ExpressionRange) -> bo
     false
 }
 
-// Adds an item's expression as a string, unless one with its normal form stands before it in the list.
+// Adds the normal form of an expression as a string.
+fn add_string(buf: &mut [u8], at: usize, any: bool, x: &[u8], e: ExpressionRange) -> Added
+    requires { ⌜ length (now buf) ≡ textBytes ⌝ }
+    ensures { λ r. ⌜ Spelling (text " ") (now (buf .entry)) at any (sourceText (expressionIn (now (x .entry)) e) ∷ []) (now (buf .exit)) r ⌝ }
+{
+    let a = add_separator(buf, at, any, b" ");
+    let b = add(buf, a, b"\"");
+    let d = add_expression(buf, b, x, e);
+    let to = add(buf, d, b"\"");
+    Added { to, any: true }
+}
+
+// Adds an item's expression, unless one with its normal form stands before it in the list.
 fn add_item(s: &[u8], item: ItemRange, first: usize, upto: usize, buf: &mut [u8], at: usize, any: bool) -> Added
     requires { ⌜ length (now buf) ≡ textBytes ⌝ }
     ensures { λ r. ⌜ ItemAdded (now (s .entry)) first upto (withSource (meaningOf (itemAs (now (s .entry)) item)) []) (now (buf .entry)) at any (now (buf .exit)) r ⌝ }
@@ -232,11 +244,7 @@ fn add_item(s: &[u8], item: ItemRange, first: usize, upto: usize, buf: &mut [u8]
             if seen(s, first, upto, x, e) {
                 return Added { to: at, any };
             }
-            let a = add_separator(buf, at, any, b" ");
-            let b = add(buf, a, b"\"");
-            let d = add_expression(buf, b, x, e);
-            let to = add(buf, d, b"\"");
-            Added { to, any: true }
+            add_string(buf, at, any, x, e)
         }
         ItemMeaning::Nothing => Added { to: at, any },
     }
