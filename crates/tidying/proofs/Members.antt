@@ -56,18 +56,22 @@ module _ (s : List ℕ) (d : Setting) (l z : List ℕ) (at r : ℕ) where
       (adding-on l m z at a r (text "(") ((own ++ others) ++ text ")") u
       (adding-on m o z a (x .to) r (own ++ others) (text ")") (adding-on m n o a b (x .to) own others v (w .text)) y))
 
+-- a name and `=`
+pub name-parts : (n : ℕ) (name : Name) (l m z : List ℕ) (at a r : ℕ) → IsName n name → Adding l at (take (name .len) (name .bytes)) m a → Adding m a (text "=") z r → Adding l at (nameOf n ++ text "=") z r
+name-parts n name l m z at a r i u v = adding-on l m z at a r (nameOf n) (text "=") (rw (i .text) at u) v
+
 -- a feature's member, if it is declared
 module _ (s : List ℕ) (d : Setting) (n : ℕ) (l : List ℕ) (at : ℕ) (any : Bool) where
   pub member-none : not (d .declared) ≡ true → Spelling (text ", ") l at any (map memberText (withMember n (settingAs s d) [])) l (record { to = at; any = any })
   unfolding settingAs pick withMember
   member-none k = rw (not-true (d .declared) k) (spelling-none (text ", ") l at any)
 
-  pub member-some : (name : Name) (m o p z : List ℕ) (a b e r : ℕ) → not (d .declared) ≡ false → IsName n name → Adding l at (pick any (text ", ") []) m a → Adding m a (take (name .len) (name .bytes)) o b → Adding o b (text "=") p e → Adding p e (valueText (listOf s d)) z r → Spelling (text ", ") l at any (map memberText (withMember n (settingAs s d) [])) z (record { to = r; any = true })
+  pub member-some : (m o z : List ℕ) (a b r : ℕ) → not (d .declared) ≡ false → Adding l at (pick any (text ", ") []) m a → Adding m a (nameOf n ++ text "=") o b → Adding o b (valueText (listOf s d)) z r → Spelling (text ", ") l at any (map memberText (withMember n (settingAs s d) [])) z (record { to = r; any = true })
   unfolding settingAs pick withMember memberText
-  member-some name m o p z a b e r k i u v w y =
+  member-some m o z a b r k u v w =
       rw (not-false (d .declared) k)
       (spelling-one (text ", ") l at any m z (nameOf n ++ (text "=" ++ valueText (listOf s d))) a r u
-      (adding-on m o z a b r (nameOf n) (text "=" ++ valueText (listOf s d)) (rw (i .text) at v) (adding-on o p z b e r (text "=") (valueText (listOf s d)) w y)))
+      (rw (append-assoc (nameOf n) (text "=") (valueText (listOf s d))) at (adding-on m o z a b r (nameOf n ++ text "=") (valueText (listOf s d)) v w)))
 
 -- a member, and then those of the others
 members-more : (n : ℕ) (o : Option Allowlist) (ms : List Plain) → map memberText (withMember n o ms) ≡ map memberText (withMember n o []) ++ map memberText ms

@@ -1,12 +1,13 @@
 // Tidied headers: written into a buffer of the limit's size, then copied to the lent run.
 ghost use mathlib.Core.Path.{_≡_};
-ghost use mathlib.Core.List.{[], _∷_, map};
+ghost use mathlib.Core.List.{[], _∷_, _++_, map};
 ghost use Prim.Native.Nat.{_+_, _≤_};
 ghost use lib.ListN.{length};
 ghost use Rattle.limits.specs.Limits.{textBytes};
 ghost use Rattle.ascii.specs.Bytes.{pick};
 ghost use Rattle.ascii.specs.Literals.{text};
 ghost use Rattle.ascii.specs.Texts.{lowered};
+ghost use Rattle.features.specs.Features.{nameOf};
 ghost use Rattle.origins.specs.Origins.{schemeText, schemeSlashes};
 ghost use Rattle.origins.specs.Answers.{expressionIn};
 ghost use Rattle.origins.specs.NormalForms.{normal, normalForm, portPartText};
@@ -308,6 +309,18 @@ fn add_value(s: &[u8], d: Setting, buf: &mut [u8], at: usize) -> usize
     add(buf, n.to, b")")
 }
 
+// Adds the name of a feature and `=`.
+fn add_name(buf: &mut [u8], at: usize, n: u32) -> usize
+    requires { ⌜ length (now buf) ≡ textBytes ⌝ }
+    ensures { λ r. ⌜ Adding (now (buf .entry)) at (nameOf n ++ text "=") (now (buf .exit)) r ⌝ }
+{
+    let name = features::name_of(n);
+    let bytes = name.bytes;
+    let len = name.len;
+    let a = add(buf, at, &bytes[..len]);
+    add(buf, a, b"=")
+}
+
 // Adds the member of a feature that is declared.
 fn add_member(s: &[u8], d: Setting, n: u32, buf: &mut [u8], at: usize, any: bool) -> Added
     requires { ⌜ length (now buf) ≡ textBytes ⌝ }
@@ -316,13 +329,9 @@ fn add_member(s: &[u8], d: Setting, n: u32, buf: &mut [u8], at: usize, any: bool
     if !d.declared {
         return Added { to: at, any };
     }
-    let name = features::name_of(n);
-    let bytes = name.bytes;
-    let len = name.len;
     let a = add_separator(buf, at, any, b", ");
-    let b = add(buf, a, &bytes[..len]);
-    let e = add(buf, b, b"=");
-    let to = add_value(s, d, buf, e);
+    let b = add_name(buf, a, n);
+    let to = add_value(s, d, buf, b);
     Added { to, any: true }
 }
 

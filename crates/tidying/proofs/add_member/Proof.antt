@@ -1,6 +1,4 @@
 -- `add_member` is right: the parts of a member are added one after the other, if the feature is declared.
-use native.Mathlib.Omega.{arith}
-use lib.ListN.{length-take}
 use Rattle.tidying.proofs.Members.{member-none, member-some}
 use borrow.Author.Needs.{needs}
 use Rattle.tidying.proofs.add_member.Statement.{statement}
@@ -11,13 +9,8 @@ add-member-spec =
     tie.close
     (tie.spec
     (λ c. search member-none)
-    (λ c κs. search needs)
     (λ c. search needs)
     (λ c κs. search needs)
-    (λ c. search needs)
-    (λ c. simp length-take (omega arith))
-    (λ c κs. search needs)
-    (λ c. search needs)
     (λ c κs. search needs)
     (λ c κs. search needs)
     (λ c. search needs)

@@ -24,7 +24,7 @@ fill-spec =
     μ-loop
     (λ c. (omega arith, search needs, search filling-start))
     (λ c. search needs)
-    (λ c. ?)
+    (λ c. omega arith)
     (λ c. search needs)
     (λ c κs. search needs)
     (λ c. search needs)
