@@ -114,7 +114,7 @@ module _ (s : List ℕ) (first c : ℕ) (l : List ℕ) (at : ℕ) (any : Bool) (
         passed = before-on s first c (g .before) r f (g .passed) p k;
         spelt = spelling-on (text " ") l at any m n x y (g .texts) ts (g .spelt) (a .adds (g .before) (g .passed));
         rest = append-assoc (g .texts) ts (sourceTexts (map normal (withSource w []) ++ g .before) es)
-        ∙ (ap (λ (z : List (List ℕ)). g .texts ++ z) (sym (texts-more (g .before) w es)) ∙ (rw (items-item s c r (p .is) f k) at (g .rest)));
+            ∙ (ap (λ (z : List (List ℕ)). g .texts ++ z) (sym (texts-more (g .before) w es)) ∙ (rw (items-item s c r (p .is) f k) at (g .rest)));
       }
 
   pub listing-end : r ≡ list.End → Spelling (text " ") l at any (sourceTexts [] (sourcesOf (itemsFrom s first))) m x

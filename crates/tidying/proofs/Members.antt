@@ -19,7 +19,7 @@ use Rattle.dictionaries.specs.Dictionaries.{Plain}
 use Rattle.dictionaries.specs.Written.{joinedBy, itemText, valueText, memberText, written}
 use Rattle.declarations.specs.Allowlists.{Allowlist, sourcesOf, allowlist}
 use Rattle.declarations.specs.Declarations.{declares}
-use Rattle.declarations.specs.Settings.{itemsAt, settingAs, settingsFrom, IsSettled}
+use Rattle.declarations.specs.Settings.{itemsAt, settingAs, IsSettled}
 use Rattle.declarations.specs.declared.Setting.{Setting}
 use Rattle.declarations.specs.declared.Settings.{Settings}
 use Rattle.declarations.proofs.Laws.{settled-at}
@@ -79,15 +79,6 @@ unfolding withMember
 members-more n (some l) ms = refl
 members-more n none ms = refl
 
--- there is a setting for each feature
-settings-long : (s : List ℕ) (n k : ℕ) → length (settingsFrom s n k) ≡ k
-unfolding settingsFrom
-settings-long s n zero = refl
-settings-long s n (suc k) = ap suc (settings-long s (suc n) k)
-
-pub kept-long : (s : List ℕ) (r : Settings) → IsSettled s r → length (r .features) ≡ featureCount
-kept-long s r h = ap length (h .features) ∙ settings-long s 0 featureCount
-
 -- feature by feature: what was written, and what is left
 pub record Filling (s : List ℕ) (i : ℕ) (l m : List ℕ) (x : Added) : Type 0 where
   pub texts : List (List ℕ)
@@ -116,7 +107,7 @@ module _ (s : List ℕ) (i : ℕ) (l m : List ℕ) (x : Added) (g : Filling s i 
         texts = g .texts ++ ts;
         spelt = spelling-on (text ", ") l 0 false m n x y (g .texts) ts (g .spelt) (rw (settled-at s kept i z k h) at a);
         rest = append-assoc (g .texts) ts (map memberText us)
-        ∙ (ap (λ (w : List (List ℕ)). g .texts ++ w) (sym (members-more i (declares s i) us) ∙ ap (map memberText) (sym (from-more (declares s) i h))) ∙ g .rest);
+            ∙ (ap (λ (w : List (List ℕ)). g .texts ++ w) (sym (members-more i (declares s i) us) ∙ ap (map memberText) (sym (from-more (declares s) i h))) ∙ g .rest);
       }
 
   pub filling-end : featureCount ≤ i → Adding l 0 (tidied s) m (x .to)

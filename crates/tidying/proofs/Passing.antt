@@ -151,7 +151,7 @@ before-on s first c before r f g p k =
       passed = g .passed ++ itemNormals s f;
       between = between-snoc s f (g .between) (sym (p .is) ∙ k) (omega (arith, p .past, next-low r f k));
       same = λ e.
-      among-append e (itemNormals s f) before
-      ∙ (or-swap (among e (itemNormals s f)) (among e before)
-      ∙ (ap (λ (b : Bool). b || among e (itemNormals s f)) (g .same e) ∙ sym (among-append e (g .passed) (itemNormals s f))));
+          among-append e (itemNormals s f) before
+          ∙ (or-swap (among e (itemNormals s f)) (among e before)
+          ∙ (ap (λ (b : Bool). b || among e (itemNormals s f)) (g .same e) ∙ sym (among-append e (g .passed) (itemNormals s f))));
     }

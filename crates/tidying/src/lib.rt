@@ -233,7 +233,15 @@ fn add_string(buf: &mut [u8], at: usize, any: bool, x: &[u8], e: ExpressionRange
 }
 
 // Adds an item's expression, unless one with its normal form stands before it in the list.
-fn add_item(s: &[u8], item: ItemRange, first: usize, upto: usize, buf: &mut [u8], at: usize, any: bool) -> Added
+fn add_item(
+    s: &[u8],
+    item: ItemRange,
+    first: usize,
+    upto: usize,
+    buf: &mut [u8],
+    at: usize,
+    any: bool,
+) -> Added
     requires { ⌜ length (now buf) ≡ textBytes ⌝ }
     ensures { λ r. ⌜ ItemAdded (now (s .entry)) first upto (withSource (meaningOf (itemAs (now (s .entry)) item)) []) (now (buf .entry)) at any (now (buf .exit)) r ⌝ }
 {

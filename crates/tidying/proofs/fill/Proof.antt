@@ -5,7 +5,7 @@ use lib.ListN.{length}
 use native.Mathlib.Omega.{arith}
 use Rattle.limits.specs.Limits.{textBytes}
 use Rattle.features.specs.Features.{featureCount}
-use Rattle.tidying.proofs.Members.{kept-long, Filling, filling-start, filling-on, filling-end}
+use Rattle.tidying.proofs.Members.{Filling, filling-start, filling-on, filling-end}
 use borrow.Author.Needs.{needs}
 use Rattle.tidying.proofs.fill.Statement.{statement}
 use Rattle.tidying.proofs.fill.Tie as tie
