@@ -188,3 +188,26 @@ module _ (m : Marks) (x : Meaning) (r : ItemMeaning) (h : r ≡ meaningAs x) whe
 
   pub mark-nothing : r ≡ meaning.Nothing → IsMarked m x m
   mark-nothing k = rw (told-nothing x r h k) (record { all = sym (or-false (m .all)); own = sym (or-false (m .own)) })
+
+-- what an item adds to the expressions of a list, by the meaning that is answered
+module _ (s : List ℕ) (p : ItemRange) (es : List SourceExpression) (r : ItemMeaning) (h : r ≡ meaningAs (meaningOf (itemAs s p))) where
+  pub adds-all : r ≡ meaning.All → withSource (meaningOf (itemAs s p)) es ≡ es
+  unfolding withSource
+  adds-all k = rw (told-star (meaningOf (itemAs s p)) r h k)
+
+  pub adds-own : r ≡ meaning.Own → withSource (meaningOf (itemAs s p)) es ≡ es
+  unfolding withSource
+  adds-own k = rw (told-self (meaningOf (itemAs s p)) r h k)
+
+  pub adds-nothing : r ≡ meaning.Nothing → withSource (meaningOf (itemAs s p)) es ≡ es
+  unfolding withSource
+  adds-nothing k = rw (told-nothing (meaningOf (itemAs s p)) r h k)
+
+  pub adds-source : (e : ExpressionRange) (x : List ℕ) → x ≡ partOf s (p .from) (p .to) → r ≡ meaning.Source e → withSource (meaningOf (itemAs s p)) es ≡ expressionIn x e ∷ es
+  unfolding withSource
+  adds-source e x m k =
+      let t = told-source (meaningOf (itemAs s p)) r h e k in
+      let y = t .0 in
+      let w : expressionOf x ≡ some y = rw m (kind-source s p y (p .kind) refl (t .1)) in
+      let v : expressionIn x e ≡ y = ap (expressionIn x) (sym (t .2)) ∙ expression-range x y w in
+      rw (t .1, v)

@@ -1,4 +1,5 @@
 pub mod Tidied
 pub mod Writing
 pub mod Answers
+pub mod Steps
 pub mod Examples
