@@ -1,0 +1,166 @@
+// Document 01's cases about tidying, over the library's call: the limits, the order of the refusals, and every lent byte.
+ghost use Prim.Native.Nat.{_<_};
+use tidying::TidyAnswer;
+
+const STDOUT: i32 = 1;
+
+// The lent runs hold this byte before a call; no tidied form has it.
+const OLD: u8 = b'#';
+
+fn put(s: &[u8]) {
+    io::write_all(STDOUT, s);
+}
+
+// How many bytes of a run are the old ones.
+fn old_bytes(run: &[u8]) -> usize {
+    let mut n: usize = 0;
+    let mut i: usize = 0;
+    while i < run.len() {
+        if run[i] == OLD {
+            n += 1;
+        }
+        i += 1;
+    }
+    n
+}
+
+// Adds a text to a buffer; the answer is the place past it.
+fn push(buf: &mut [u8], at: usize, t: &[u8]) -> usize {
+    let mut o = at;
+    let mut j: usize = 0;
+    while j < t.len() {
+        if buf.len() <= o {
+            return o;
+        }
+        buf[o] = t[j];
+        o += 1;
+        j += 1;
+    }
+    o
+}
+
+// Adds a byte so many times.
+fn repeat(buf: &mut [u8], at: usize, b: u8, times: usize) -> usize {
+    let mut o = at;
+    let mut j: usize = 0;
+    while j < times {
+        if buf.len() <= o {
+            return o;
+        }
+        buf[o] = b;
+        o += 1;
+        j += 1;
+    }
+    o
+}
+
+// Tidies a header into a lent run of so many bytes, and tells the answer, how many lent bytes are unchanged, and the text where it is short.
+fn tidy_into(name: &[u8], header: &[u8], run: &mut [u8]) {
+    put(name);
+    put(b": ");
+    match tidying::tidy(header, run) {
+        TidyAnswer::Length(n) => {
+            put(b"length ");
+            io::print_decimal(STDOUT, n as u64);
+            if n < 64 {
+                put(b", ");
+                put(ascii::part(run, 0, n));
+            }
+        }
+        TidyAnswer::Refused(r) => {
+            put(b"refused ");
+            io::print_decimal(STDOUT, limits::refusal_number(r) as u64);
+        }
+    }
+    put(b", unchanged ");
+    io::print_decimal(STDOUT, old_bytes(run) as u64);
+    put(b"\n");
+}
+
+// With a run that is long enough for every tidied form.
+fn tidy_wide(name: &[u8], header: &[u8]) {
+    let mut run = [OLD; 1100];
+    tidy_into(name, header, &mut run);
+}
+
+fn short_runs() {
+    let mut none = [OLD; 0];
+    tidy_into(b"nothing into a run of 0", b"", &mut none);
+    tidy_into(b"camera=* into a run of 0", b"camera=*", &mut none);
+    tidy_into(b"malformed into a run of 0", b"camera=(", &mut none);
+    let mut seven = [OLD; 7];
+    tidy_into(b"camera=* into a run of 7", b"camera=*", &mut seven);
+    let mut eight = [OLD; 8];
+    tidy_into(b"camera=* into a run of 8", b"camera=*", &mut eight);
+}
+
+// `camera=*` and spaces, so many bytes in all.
+fn spaces(name: &[u8], length: usize) {
+    let mut buf = [b' '; 1100];
+    push(&mut buf, 0, b"camera=*");
+    tidy_wide(name, ascii::part(&buf, 0, length));
+}
+
+// Adds an expression whose host is so many bytes of one letter.
+fn push_expression(buf: &mut [u8], at: usize, letter: u8, length: usize) -> usize {
+    let a = push(buf, at, b"\"https://");
+    let b = repeat(buf, a, letter, length);
+    push(buf, b, b"\"")
+}
+
+// Adds two expressions, of two letters.
+fn push_pair(buf: &mut [u8], at: usize, letter: u8, first: usize, second: usize) -> usize
+    requires { ⌜ letter < 255 ⌝ }
+{
+    let a = push_expression(buf, at, letter, first);
+    let b = push(buf, a, b" ");
+    push_expression(buf, b, letter + 1, second)
+}
+
+// The third and the fourth expression.
+fn push_rest(buf: &mut [u8], at: usize, others: usize) -> usize {
+    let a = push(buf, at, b" ");
+    let b = push_pair(buf, a, b'c', others, others);
+    push(buf, b, b")")
+}
+
+// camera with four expressions, the first with a host of so many bytes and the others with hosts of so many.
+fn push_camera(buf: &mut [u8], first: usize, others: usize) -> usize {
+    let a = push(buf, 0, b"camera=(");
+    let b = push_pair(buf, a, b'a', first, others);
+    push_rest(buf, b, others)
+}
+
+fn long_forms() {
+    let mut one = [0u8; 1100];
+    let n = push_camera(&mut one, 243, 243);
+    tidy_wide(b"a form of 1024", ascii::part(&one, 0, n));
+    let mut two = [0u8; 1100];
+    let m = push_camera(&mut two, 243, 241);
+    let k = push(&mut two, m, b",usb=*");
+    tidy_wide(b"a form of 1025", ascii::part(&two, 0, k));
+    let mut none = [OLD; 0];
+    tidy_into(
+        b"a form of 1025 into a run of 0",
+        ascii::part(&two, 0, k),
+        &mut none,
+    );
+}
+
+fn main() {
+    tidy_wide(
+        b"the example",
+        b"usb=self,camera=(\"https://B.example:443\" self \"https://b.example\"),foo=1,forms=(self *)",
+    );
+    tidy_wide(b"the empty header", b"");
+    tidy_wide(b"a final line feed", b"camera=*\n");
+    tidy_wide(b"nothing known", b"foo=1, camera=1");
+    tidy_wide(
+        b"ports and repeats",
+        b"usb=(\"http://x:0443\" \"http://X:443\" \"https:\" self;a)",
+    );
+    spaces(b"1024 bytes", 1024);
+    spaces(b"1025 bytes", 1025);
+    short_runs();
+    long_forms();
+}
