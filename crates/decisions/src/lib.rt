@@ -116,7 +116,12 @@ pub fn inherited(f: Framed) -> Decision
 }
 
 // The question of a feature in a document for an origin; `same`: it is the document's own.
-pub fn question(inherited: Decision, declared: Admission, default: DefaultOf, same: bool) -> Decision
+pub fn question(
+    inherited: Decision,
+    declared: Admission,
+    default: DefaultOf,
+    same: bool,
+) -> Decision
     ensures { λ r. ⌜ decisionIn r ≡ questionBy (decisionIn inherited) (admissionIn declared) (defaultAs default) same ⌝ }
 {
     match inherited {
