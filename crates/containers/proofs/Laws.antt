@@ -75,6 +75,11 @@ pub all-allows : (container declared o : Origin) → allows all container declar
 unfolding listAdmits
 all-allows container declared o = refl
 
+-- whatever it is told of the origin
+pub all-admits : (container declared : Bool) (o : Origin) → listAdmits all container declared o ≡ true
+unfolding listAdmits
+all-admits container declared o = refl
+
 -- only `*` admits a fresh origin
 fresh-sources : (es : List SourceExpression) → anyAdmits es fresh ≡ false
 unfolding anyAdmits

@@ -1,8 +1,8 @@
 -- Each arm of the code is a clause of the definition. Assumes nothing.
-use mathlib.Core.Path.{_≡_, refl, ap, _∙_, sym}
+use mathlib.Core.Path.{_≡_}
 use mathlib.Core.List.{List}
 use mathlib.Core.Bool.{Bool, true, false}
-use mathlib.Core.Option.{Option, some, none}
+use mathlib.Core.Option.{some, none}
 use Prim.Native.Nat.{ℕ}
 use Rattle.features.specs.Answers.{defaultAs}
 use Rattle.features.specs.declared.DefaultOf.{DefaultOf}
@@ -15,8 +15,8 @@ use Rattle.containers.specs.Answers.{wordsIn, policyIn}
 use Rattle.containers.specs.declared.WordsRange.{WordsRange}
 use Rattle.containers.specs.declared.ContainerPolicy.{ContainerPolicy}
 use Rattle.containers.specs.declared.ContainerPolicy.the-variants as policy
-use Rattle.containers.proofs.Laws.{all-allows}
-use Rattle.decisions.specs.Decisions.{Decision, decided, unlessDisabled, byList, byDefault, valueBy, inheritedBy, questionBy}
+use Rattle.containers.proofs.Laws.{all-admits}
+use Rattle.decisions.specs.Decisions.{decided, unlessDisabled, byList, byDefault, valueBy, inheritedBy, questionBy}
 use Rattle.decisions.specs.Decisions.Decision.{disabled, enabled}
 use Rattle.decisions.specs.Policies.{attributeAdmits}
 use Rattle.decisions.specs.Answers.{decisionIn, admissionIn, attributeIn}
@@ -122,8 +122,8 @@ module _ (s : List ℕ) (p : ContainerPolicy) (container declared : Bool) (o : O
   attribute-none k = rw k
 
   pub attribute-all : p ≡ policy.All → some true ≡ attributeAdmits (policyIn s p) container declared o
-  unfolding attributeAdmits listAdmits
-  attribute-all k = rw k
+  unfolding attributeAdmits
+  attribute-all k = rw (k, all-admits container declared o)
 
   pub attribute-yes : (w : WordsRange) (r : Bool) → p ≡ policy.Words w → r ≡ listAdmits (entryList (wordsIn s w)) container declared o → r ≡ true → some true ≡ attributeAdmits (policyIn s p) container declared o
   unfolding attributeAdmits

@@ -8,21 +8,22 @@ use native.Mathlib.Nat.{add-comm, mod-one, mod-lt, mod-eq-of-lt}
 use native.Mathlib.Omega.{arith}
 use lib.Pow.{mod-pow-add}
 use lib.Dec.{ltb, eqb}
+use lib.ListN.{getD}
 use borrow.Author.Tests.{ltb-true, ltb-false}
 use Rattle.features.specs.Features.{Default, featureCount, defaultOf}
 use Rattle.features.specs.Features.Default.{star, self}
 use Rattle.features.specs.Answers.{defaultAs}
 use Rattle.features.specs.declared.DefaultOf.{DefaultOf}
-use Rattle.origins.specs.Origins.{Origin, TupleOrigin}
+use Rattle.origins.specs.Origins.{Origin}
 use Rattle.origins.specs.Origins.Origin.{tuple, opaque, fresh}
 use Rattle.origins.specs.Matching.{sameOrigin}
 use Rattle.origins.specs.Answers.{originIn}
 use Rattle.origins.specs.declared.OriginRange.{OriginRange}
-use Rattle.origins.proofs.Laws.{tuple-self, opaque-self, fresh-left}
+use Rattle.origins.proofs.Laws.{tuple-self, opaque-self}
 use Rattle.declarations.specs.Allowlists.{Allowlist, allows}
 use Rattle.declarations.specs.Allowlists.Allowlist.{all, listed}
 use Rattle.declarations.specs.Settings.{settingAs, someAdmits, admissionAs}
-use Rattle.declarations.specs.Widening.{Wider, DeclaresMore}
+use Rattle.declarations.specs.Widening.{DeclaresMore}
 use Rattle.declarations.specs.Widening.DeclaresMore.{neither, both}
 use Rattle.declarations.specs.declared.Setting.{Setting}
 use Rattle.declarations.specs.declared.Admission.{Admission}
@@ -40,6 +41,7 @@ use Rattle.decisions.specs.Policies.{Policy, Frame, attributeAdmits, val
 use Rattle.decisions.specs.Widening.{Stays, WiderPolicy, WiderFrame}
 use Rattle.decisions.specs.Answers.{decisionIn, admissionIn, attributeIn, decisionsIn}
 use Rattle.decisions.specs.declared.Decision.{Decision as Answer}
+use Rattle.decisions.specs.declared.Decision.the-variants as answer
 use Rattle.decisions.specs.declared.AttributeAnswer.{AttributeAnswer}
 use Rattle.decisions.proofs.Masks.{mask-lt, mask-bit, bits-past}
 
@@ -114,7 +116,7 @@ unfolding inheritedFramed inheritedBy unlessDisabled
 inherited-arriving disabled allowed default container declared arriving = refl
 inherited-arriving enabled allowed default container declared arriving = refl
 
--- for a document: own-agrees and the two above
+-- the same of a document
 module _ (p : Policy) (n : ℕ) where
   pub own-agrees-in : sameOrigin (p .own) (p .own) ≡ true → questionIn p n (p .own) ≡ valueIn p n (p .own)
   unfolding questionIn valueIn
@@ -287,6 +289,10 @@ below-same p q (suc k) h = rw (below-same p q k (λ n lt. h n (omega arith)), h 
 
 pub mask-same : (p q : ℕ → Decision) → ((n : ℕ) → n < featureCount → p n ≡ q n) → maskOf p ≡ maskOf q
 mask-same p q h = below-same p q featureCount h
+
+-- the number that `mask` answers, by the decisions at its places
+pub mask-places : (l : List Answer) (p : ℕ → Decision) → ((n : ℕ) → n < featureCount → decisionIn (getD l n answer.Disabled) ≡ p n) → maskOf (decisionsIn l) ≡ maskOf p
+mask-places l p h = mask-same (decisionsIn l) p (λ n lt. unfold decisionsIn in (h n lt))
 
 -- a number with no bit from 17 on is the number of its bits
 bit-read : (b : ℕ) → b < 2 → bitOf (decided (eqb b 1)) ≡ b

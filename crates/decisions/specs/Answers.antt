@@ -1,9 +1,8 @@
 -- What the code's answers say, in document 01's terms.
 use Prim.Native.Nat.{ℕ}
 use mathlib.Core.List.{List}
-use mathlib.Core.Bool.{true, false}
 use mathlib.Core.Option.{Option, some, none}
-use mathlib.Core.Bool.{Bool}
+use mathlib.Core.Bool.{Bool, true, false}
 use lib.ListN.{getD}
 use Rattle.declarations.specs.declared.Admission.{Admission}
 use Rattle.declarations.specs.declared.Admission.the-variants as admission

@@ -2,8 +2,8 @@
 use Prim.Native.Nat.{ℕ}
 use Prim.Native.String.{String}
 use mathlib.Core.Path.{_≡_, refl}
-use mathlib.Core.List.{List, [], _∷_, map}
-use mathlib.Core.Bool.{Bool, true, false, _&&_}
+use mathlib.Core.List.{List, [], _∷_}
+use mathlib.Core.Bool.{Bool, true, false}
 use mathlib.Core.Option.{Option, some, none}
 use lib.Dec.{eqb}
 use Rattle.ascii.specs.Bytes.{pick, lower}
@@ -30,7 +30,7 @@ use Rattle.containers.specs.Policies.{fullscreen, entryElse, allowedFullscreen,
 use Rattle.containers.specs.Sandboxes.{srcOrigin, unless, declaredOrigin}
 use Rattle.decisions.specs.Decisions.{Decision, decided, unlessDisabled, byList, byDefault, valueBy, inheritedTop, inheritedBy, questionBy}
 use Rattle.decisions.specs.Decisions.Decision.{disabled, enabled}
-use Rattle.decisions.specs.Masks.{maskBelow, maskOf, decisionAt}
+use Rattle.decisions.specs.Masks.{maskBelow}
 use Rattle.decisions.specs.Policies.{Policy, Frame, attributeAdmits, value, inheritedFramed, question, valueIn, questionIn, inheritedIn, enabledMask, forecast}
 
 -- the numbers of the features in the rows
@@ -116,7 +116,7 @@ marked =
     ∷ []
 
 marked-right : every right marked ≡ true
-unfolding marked every each sameBy lower pick headOf headIs isEmpty next skip letLen runOf past after mapped going adding onStep turns features names nameOf defaultOf placeFrom featureOf longer labels isLabel isHost decimalFrom isNumber leadsZero isPort originPort withPort tupleOf originOf isPortPart portPartOf startsWith hostPartOf withParts hostSourceOf startsLowered expressionOf endsIn portAdmits hostAdmits admitsTuple admits sameTuple sameOrigin keyOf tokenOf booleanOf bytesOf fractionOf unsignedOf numberOf stringTurn stringOf bareOf paramOf paramTurn paramsOf itemOf innerTurn innerOf closedOf listOf loneOf valueOf bareKey assignedOf memberOf partedOf dictTurn readAll dataOf plains plainly into later lastValueIn isSome tokenMeaning sourceMeaning meaningOf hasStar hasSelf withSource sourcesOf allowlist allowlistOf anyAdmits listAdmits loneDeclares valueDeclares lastDeclares declares someAdmits before cutAt nonEmpty words entries isFor furtherWords lastFor entryOf attribute.sourceMeaning attribute.meaningOf attribute.withSource attribute.hasStar attribute.hasSelf attribute.hasSrc attribute.sourcesOf attribute.listOf attribute.listOr attribute.anyAdmits attribute.listAdmits entryElse allowedFullscreen containerPolicy srcOrigin unless declaredOrigin decided unlessDisabled byList byDefault valueBy inheritedBy questionBy maskBelow decisionAt attributeAdmits value inheritedFramed question valueIn questionIn inheritedIn enabledMask forecast
+unfolding marked every each sameBy lower pick headOf headIs isEmpty next skip letLen runOf past after mapped going adding onStep turns features names nameOf defaultOf placeFrom featureOf longer labels isLabel isHost decimalFrom isNumber leadsZero isPort originPort withPort tupleOf originOf isPortPart portPartOf startsWith hostPartOf withParts hostSourceOf startsLowered expressionOf endsIn portAdmits hostAdmits admitsTuple admits sameTuple sameOrigin keyOf tokenOf booleanOf bytesOf fractionOf unsignedOf numberOf stringTurn stringOf bareOf paramOf paramTurn paramsOf itemOf innerTurn innerOf closedOf listOf loneOf valueOf bareKey assignedOf memberOf partedOf dictTurn readAll dataOf plains plainly into later lastValueIn isSome tokenMeaning sourceMeaning meaningOf hasStar hasSelf withSource sourcesOf allowlist allowlistOf anyAdmits listAdmits loneDeclares valueDeclares lastDeclares declares someAdmits before cutAt nonEmpty words entries isFor furtherWords lastFor entryOf attribute.sourceMeaning attribute.meaningOf attribute.withSource attribute.hasStar attribute.hasSelf attribute.hasSrc attribute.sourcesOf attribute.listOf attribute.listOr attribute.anyAdmits attribute.listAdmits entryElse allowedFullscreen containerPolicy srcOrigin unless declaredOrigin decided unlessDisabled byList byDefault valueBy inheritedBy questionBy maskBelow attributeAdmits value inheritedFramed question valueIn questionIn inheritedIn enabledMask forecast
 marked-right = refl
 
 rest : List Row
@@ -152,7 +152,7 @@ rest =
     ∷ []
 
 rest-right : every right rest ≡ true
-unfolding rest every each sameBy lower pick headOf headIs isEmpty next skip letLen runOf past after mapped going adding onStep turns features names nameOf defaultOf placeFrom featureOf longer labels isLabel isHost decimalFrom isNumber leadsZero isPort originPort withPort tupleOf originOf isPortPart portPartOf startsWith hostPartOf withParts hostSourceOf startsLowered expressionOf endsIn portAdmits hostAdmits admitsTuple admits sameTuple sameOrigin keyOf tokenOf booleanOf bytesOf fractionOf unsignedOf numberOf stringTurn stringOf bareOf paramOf paramTurn paramsOf itemOf innerTurn innerOf closedOf listOf loneOf valueOf bareKey assignedOf memberOf partedOf dictTurn readAll dataOf plains plainly into later lastValueIn isSome tokenMeaning sourceMeaning meaningOf hasStar hasSelf withSource sourcesOf allowlist allowlistOf anyAdmits listAdmits loneDeclares valueDeclares lastDeclares declares someAdmits before cutAt nonEmpty words entries isFor furtherWords lastFor entryOf attribute.sourceMeaning attribute.meaningOf attribute.withSource attribute.hasStar attribute.hasSelf attribute.hasSrc attribute.sourcesOf attribute.listOf attribute.listOr attribute.anyAdmits attribute.listAdmits entryElse allowedFullscreen containerPolicy srcOrigin unless declaredOrigin decided unlessDisabled byList byDefault valueBy inheritedBy questionBy maskBelow decisionAt attributeAdmits value inheritedFramed question valueIn questionIn inheritedIn enabledMask forecast
+unfolding rest every each sameBy lower pick headOf headIs isEmpty next skip letLen runOf past after mapped going adding onStep turns features names nameOf defaultOf placeFrom featureOf longer labels isLabel isHost decimalFrom isNumber leadsZero isPort originPort withPort tupleOf originOf isPortPart portPartOf startsWith hostPartOf withParts hostSourceOf startsLowered expressionOf endsIn portAdmits hostAdmits admitsTuple admits sameTuple sameOrigin keyOf tokenOf booleanOf bytesOf fractionOf unsignedOf numberOf stringTurn stringOf bareOf paramOf paramTurn paramsOf itemOf innerTurn innerOf closedOf listOf loneOf valueOf bareKey assignedOf memberOf partedOf dictTurn readAll dataOf plains plainly into later lastValueIn isSome tokenMeaning sourceMeaning meaningOf hasStar hasSelf withSource sourcesOf allowlist allowlistOf anyAdmits listAdmits loneDeclares valueDeclares lastDeclares declares someAdmits before cutAt nonEmpty words entries isFor furtherWords lastFor entryOf attribute.sourceMeaning attribute.meaningOf attribute.withSource attribute.hasStar attribute.hasSelf attribute.hasSrc attribute.sourcesOf attribute.listOf attribute.listOr attribute.anyAdmits attribute.listAdmits entryElse allowedFullscreen containerPolicy srcOrigin unless declaredOrigin decided unlessDisabled byList byDefault valueBy inheritedBy questionBy maskBelow attributeAdmits value inheritedFramed question valueIn questionIn inheritedIn enabledMask forecast
 rest-right = refl
 
 -- the ten with default * are worth 64908, all seventeen 131071, camera 1, usb 65536
@@ -169,5 +169,5 @@ numbers =
     ∷ []
 
 numbers-right : every right numbers ≡ true
-unfolding numbers every each sameBy lower pick headOf headIs isEmpty next skip letLen runOf past after mapped going adding onStep turns features names nameOf defaultOf placeFrom featureOf longer labels isLabel isHost decimalFrom isNumber leadsZero isPort originPort withPort tupleOf originOf isPortPart portPartOf startsWith hostPartOf withParts hostSourceOf startsLowered expressionOf endsIn portAdmits hostAdmits admitsTuple admits sameTuple sameOrigin keyOf tokenOf booleanOf bytesOf fractionOf unsignedOf numberOf stringTurn stringOf bareOf paramOf paramTurn paramsOf itemOf innerTurn innerOf closedOf listOf loneOf valueOf bareKey assignedOf memberOf partedOf dictTurn readAll dataOf plains plainly into later lastValueIn isSome tokenMeaning sourceMeaning meaningOf hasStar hasSelf withSource sourcesOf allowlist allowlistOf anyAdmits listAdmits loneDeclares valueDeclares lastDeclares declares someAdmits before cutAt nonEmpty words entries isFor furtherWords lastFor entryOf attribute.sourceMeaning attribute.meaningOf attribute.withSource attribute.hasStar attribute.hasSelf attribute.hasSrc attribute.sourcesOf attribute.listOf attribute.listOr attribute.anyAdmits attribute.listAdmits entryElse allowedFullscreen containerPolicy srcOrigin unless declaredOrigin decided unlessDisabled byList byDefault valueBy inheritedBy questionBy maskBelow decisionAt attributeAdmits value inheritedFramed question valueIn questionIn inheritedIn enabledMask forecast
+unfolding numbers every each sameBy lower pick headOf headIs isEmpty next skip letLen runOf past after mapped going adding onStep turns features names nameOf defaultOf placeFrom featureOf longer labels isLabel isHost decimalFrom isNumber leadsZero isPort originPort withPort tupleOf originOf isPortPart portPartOf startsWith hostPartOf withParts hostSourceOf startsLowered expressionOf endsIn portAdmits hostAdmits admitsTuple admits sameTuple sameOrigin keyOf tokenOf booleanOf bytesOf fractionOf unsignedOf numberOf stringTurn stringOf bareOf paramOf paramTurn paramsOf itemOf innerTurn innerOf closedOf listOf loneOf valueOf bareKey assignedOf memberOf partedOf dictTurn readAll dataOf plains plainly into later lastValueIn isSome tokenMeaning sourceMeaning meaningOf hasStar hasSelf withSource sourcesOf allowlist allowlistOf anyAdmits listAdmits loneDeclares valueDeclares lastDeclares declares someAdmits before cutAt nonEmpty words entries isFor furtherWords lastFor entryOf attribute.sourceMeaning attribute.meaningOf attribute.withSource attribute.hasStar attribute.hasSelf attribute.hasSrc attribute.sourcesOf attribute.listOf attribute.listOr attribute.anyAdmits attribute.listAdmits entryElse allowedFullscreen containerPolicy srcOrigin unless declaredOrigin decided unlessDisabled byList byDefault valueBy inheritedBy questionBy maskBelow attributeAdmits value inheritedFramed question valueIn questionIn inheritedIn enabledMask forecast
 numbers-right = refl

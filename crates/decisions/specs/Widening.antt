@@ -1,7 +1,6 @@
 -- Demand 3: when what is Enabled stays Enabled.
 use Prim.Native.Nat.{ℕ}
 use mathlib.Core.Path.{_≡_}
-use Rattle.origins.specs.Origins.{Origin}
 use Rattle.declarations.specs.Widening.{DeclaresMore}
 use Rattle.containers.specs.Widening.{AllowsMore}
 use Rattle.decisions.specs.Decisions.{Decision}

@@ -3,7 +3,7 @@ ghost use mathlib.Core.Path.{_≡_};
 ghost use Rattle.features.specs.Answers.{defaultAs};
 ghost use Rattle.origins.specs.Answers.{originIn};
 ghost use Rattle.containers.specs.Answers.{policyIn};
-ghost use Rattle.decisions.specs.Decisions.{decided, byList, byDefault, valueBy, inheritedBy, questionBy};
+ghost use Rattle.decisions.specs.Decisions.{decided, byDefault, valueBy, inheritedBy, questionBy};
 ghost use Rattle.decisions.specs.Masks.{maskOf, decisionAt};
 ghost use Rattle.decisions.specs.Policies.{attributeAdmits};
 ghost use Rattle.decisions.specs.Answers.{decisionIn, admissionIn, attributeIn, decisionsIn};
