@@ -173,8 +173,8 @@ fn add_expression(buf: &mut [u8], at: usize, x: &[u8], e: ExpressionRange) -> us
         }
         HostKind::Exact => {
             let a = add_slashes(buf, at, k);
-            let b = add_lowered(buf, a, h);
-            add_port(buf, b, p)
+            let c = add_lowered(buf, a, h);
+            add_port(buf, c, p)
         }
         HostKind::Subdomains => {
             let a = add_slashes(buf, at, k);
@@ -363,7 +363,7 @@ pub fn tidy(s: &[u8], out: &mut [u8]) -> TidyAnswer
     ensures { λ r. ⌜ IsTidied (now (s .entry)) (now (out .entry)) (now (out .exit)) r ⌝ }
 {
     if TEXT_BYTES < s.len() {
-        return TidyAnswer::Refused(Refusal::TooLong);
+        return TidyAnswer::Refused(Refusal::TooLong); // the input
     }
     let kept = declarations::settle(s);
     if kept.malformed {
@@ -372,7 +372,7 @@ pub fn tidy(s: &[u8], out: &mut [u8]) -> TidyAnswer
     let mut buf = [0u8; TEXT_BYTES];
     let n = fill(s, kept, &mut buf);
     if TEXT_BYTES < n {
-        return TidyAnswer::Refused(Refusal::TooLong);
+        return TidyAnswer::Refused(Refusal::TooLong); // the output
     }
     if out.len() < n {
         return TidyAnswer::Refused(Refusal::Small);
