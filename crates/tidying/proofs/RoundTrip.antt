@@ -37,7 +37,8 @@ use Rattle.declarations.specs.Allowlists.{Allowlist, anyAdmits, listAdmits, all
 use Rattle.declarations.specs.Allowlists.Allowlist.{all, listed}
 use Rattle.declarations.specs.Declarations.{valueDeclares, declares, isMalformed}
 use Rattle.ascii.proofs.Bytes.{or-false, or-true}
-use Rattle.declarations.proofs.Laws.{listed-allows, any-nil, any-cons}
+use Rattle.declarations.specs.Settings.{someAdmits}
+use Rattle.declarations.proofs.Laws.{some-allows, listed-allows, any-nil, any-cons}
 use Rattle.declarations.proofs.Back.{list-back, self-list-back, star-back, declares-value, declares-none, members-good, declares-good}
 use Rattle.tidying.specs.Tidied.{among, unless, onceAfter, normalsOf, sourceItem, selfItem, tidyValue, withMember, tidyFrom, tidyMembers, tidied, SamePolicy}
 use Rattle.tidying.specs.Tidied.SamePolicy.{undeclared, everything, lists}
@@ -301,6 +302,16 @@ same-by (lists b es fs n) l m e f own o =
 
 pub same-admits : (l m : Allowlist) → SamePolicy (some l) (some m) → (own o : Origin) → allows l own o ≡ allows m own o
 same-admits l m h own o = same-by h l m refl refl own o
+
+same-answers : {a b : Option Allowlist} → SamePolicy a b → (own o : Origin) → someAdmits a (sameOrigin own o) o ≡ someAdmits b (sameOrigin own o) o
+same-answers undeclared own o = refl
+same-answers everything own o = refl
+same-answers (lists b es fs k) own o =
+    rw (some-allows (listed b es) own o, some-allows (listed b fs) own o, same-admits (listed b es) (listed b fs) (lists b es fs k) own o)
+
+-- demand 2: "read again, declares the same policy": every feature's list answers alike for every own origin and every origin asked about, and there is no list in one alone
+pub tidied-admits : (s : List ℕ) (n : ℕ) → n < featureCount → (own o : Origin) → someAdmits (declares s n) (sameOrigin own o) o ≡ someAdmits (declares (tidied s) n) (sameOrigin own o) o
+tidied-admits s n h own o = same-answers (tidied-same s n h) own o
 
 -- demand 2: and tidies to the same bytes
 value-same : (d : Option Allowlist) (n : ℕ) (ms : List Plain) → withMember n (canonical d) ms ≡ withMember n d ms
