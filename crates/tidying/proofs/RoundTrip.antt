@@ -10,7 +10,6 @@ use lib.ListN.{length, drop}
 use lib.Dec.{ltb, eqb}
 use borrow.Author.Tests.{le-ltb, ltb-false, eqb-true, eqb-false}
 use Rattle.limits.specs.Limits.{textBytes}
-use Rattle.limits.specs.declared.Refusal.the-variants.{TooLong, NotADictionary, Small}
 use Rattle.ascii.specs.Bytes.{pick}
 use Rattle.ascii.specs.Literals.{text}
 use Rattle.ascii.specs.Texts.{every, sameBytes}
@@ -43,7 +42,7 @@ use Rattle.declarations.proofs.Back.{list-back, self-list-back, star-back, decl
 use Rattle.tidying.specs.Tidied.{among, unless, onceAfter, normalsOf, sourceItem, selfItem, tidyValue, withMember, tidyFrom, tidyMembers, tidied, SamePolicy}
 use Rattle.tidying.specs.Tidied.SamePolicy.{undeclared, everything, lists}
 use Rattle.tidying.specs.Answers.{tidyAnswer, runAfter}
-use Rattle.tidying.specs.declared.TidyAnswer.the-variants as answer
+use Rattle.tidying.specs.Answers.Answer.{lengthIs, refusal}
 
 -- expressions that a text can say stay such
 good-normals : {es : List SourceExpression} → All GoodExpression es → All GoodExpression (map normal es)
@@ -330,7 +329,7 @@ pub tidied-twice : (s : List ℕ) → tidied (tidied s) ≡ tidied s
 tidied-twice s = unfold tidied in (ap written (from-same s 0 featureCount (omega arith)))
 
 -- so tidying the tidied text, with a run that is long enough, answers the same length and writes the same bytes
-length-said : (s : List ℕ) (room n : ℕ) (a b c d : Bool) → ltb textBytes (length (tidied s)) ≡ c → pick a (answer.Refused TooLong) (pick b (answer.Refused NotADictionary) (pick c (answer.Refused TooLong) (pick d (answer.Refused Small) (answer.Length (length (tidied s)))))) ≡ answer.Length n → (length (tidied s) ≡ n) × (length (tidied s) ≤ textBytes)
+length-said : (s : List ℕ) (room n : ℕ) (a b c d : Bool) → ltb textBytes (length (tidied s)) ≡ c → pick a (refusal 4) (pick b (refusal 8) (pick c (refusal 4) (pick d (refusal 9) (lengthIs (length (tidied s)))))) ≡ lengthIs n → (length (tidied s) ≡ n) × (length (tidied s) ≤ textBytes)
 unfolding pick
 length-said s room n true b c d u e = absurd (let z : _≡_ {A = ℕ} 0 1 = cc in omega arith)
 length-said s room n false true c d u e = absurd (let z : _≡_ {A = ℕ} 0 1 = cc in omega arith)
@@ -338,11 +337,11 @@ length-said s room n false false true d u e = absurd (let z : _≡_ {A = ℕ} 0 
 length-said s room n false false false true u e = absurd (let z : _≡_ {A = ℕ} 0 1 = cc in omega arith)
 length-said s room n false false false false u e = (cc, ltb-false textBytes (length (tidied s)) u)
 
-module _ (s : List ℕ) (room n : ℕ) (e : tidyAnswer s room ≡ answer.Length n) where
+module _ (s : List ℕ) (room n : ℕ) (e : tidyAnswer s room ≡ lengthIs n) where
   said : (length (tidied s) ≡ n) × (length (tidied s) ≤ textBytes)
   said = length-said s room n (ltb textBytes (length s)) (isMalformed s) (ltb textBytes (length (tidied s))) (ltb room (length (tidied s))) refl (unfold tidyAnswer in e)
 
-  pub tidy-again : (enough : ℕ) → n ≤ enough → tidyAnswer (tidied s) enough ≡ answer.Length n
+  pub tidy-again : (enough : ℕ) → n ≤ enough → tidyAnswer (tidied s) enough ≡ lengthIs n
   unfolding tidyAnswer pick
   tidy-again enough h =
       let u : ltb textBytes (length (tidied s)) ≡ false = le-ltb textBytes (length (tidied s)) (said .1) in
