@@ -22,7 +22,7 @@ use Rattle.features.specs.declared.Lookup.{Lookup}
 use Rattle.features.specs.declared.Lookup.the-variants.{Known, Unknown}
 use Rattle.containers.specs.Attributes.{cutAt, words, isSemicolon, isThe, isFor}
 use Rattle.containers.specs.Policies.{fullscreen}
-use Rattle.containers.specs.Answers.{isWordByte, pastFirst, rangeAt, pieceEntry, lastAt, entryAt, policyElse, policyAt}
+use Rattle.containers.specs.Answers.{isWordByte, pastFirst, rangeAt, pieceEntry, lastAt, entryAt, IsEntry, policyElse, policyAt}
 use Rattle.containers.specs.declared.WordsRange.{WordsRange}
 use Rattle.containers.specs.declared.EntryFound.{EntryFound}
 use Rattle.containers.specs.declared.EntryFound.the-variants as entry
@@ -102,18 +102,18 @@ module _ (s : List ℕ) (n i : ℕ) (found : EntryFound) (R : EntryFound) (so-fa
             rw (rest-some s e k) at on
 
 -- the container policy, by the entry
-module _ (s : List ℕ) (mark : Bool) (n : ℕ) (r : EntryFound) (is : r ≡ entryAt isSemicolon s n) where
+module _ (s : List ℕ) (mark : Bool) (n : ℕ) (r : EntryFound) (is : IsEntry s n r) where
   pub policy-words : (w : WordsRange) → r ≡ entry.Words w → policy.Words w ≡ policyAt s mark n
   unfolding policyAt policyElse
-  policy-words w k = rw (← is, k)
+  policy-words w k = rw (← (is .range), k)
 
   pub policy-all : r ≡ entry.None → mark && eqb n fullscreen ≡ true → policy.All ≡ policyAt s mark n
   unfolding policyAt policyElse pick
-  policy-all k t = rw (← is, k, t)
+  policy-all k t = rw (← (is .range), k, t)
 
   pub policy-none : r ≡ entry.None → mark && eqb n fullscreen ≡ false → policy.None ≡ policyAt s mark n
   unfolding policyAt policyElse pick
-  policy-none k t = rw (← is, k, t)
+  policy-none k t = rw (← (is .range), k, t)
 
 -- from the start, all pieces are left
 pub entry-start : (s : List ℕ) (n : ℕ) → lastAt n 0 (cutAt isSemicolon (drop 0 s)) entry.None ≡ entryAt isSemicolon s n

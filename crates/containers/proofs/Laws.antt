@@ -27,7 +27,7 @@ use Rattle.containers.specs.Allowlists.{Allowlist, hasStar, listOf, list
 use Rattle.containers.specs.Allowlists.Allowlist.{all, listed}
 use Rattle.containers.specs.Policies.{fullscreen, entryElse, allowedFullscreen, containerPolicy}
 use Rattle.containers.specs.Sandboxes.{isSandboxed, srcOrigin, unless, declaredOrigin}
-use Rattle.containers.specs.Answers.{wordsIn, entryIn, entryAt, policyIn, policyElse, policyAt, declaredIn, declaredBy}
+use Rattle.containers.specs.Answers.{wordsIn, entryIn, entryAt, IsEntry, policyIn, policyElse, policyAt, IsPolicy, declaredIn, declaredBy, IsDeclared}
 use Rattle.containers.specs.Widening.{OneWordMore, Wider, AllowsMore}
 use Rattle.containers.specs.Widening.AllowsMore.{neither, both}
 use Rattle.containers.specs.declared.WordsRange.{WordsRange}
@@ -45,6 +45,9 @@ use Rattle.containers.proofs.Standing.{entry-in}
 pub entry-says : (s : List ℕ) (n : ℕ) → entryIn s (entryAt isSemicolon s n) ≡ entryOf isSemicolon s n
 entry-says s n = entry-in isSemicolon s n
 
+pub entry-is : (s : List ℕ) (n : ℕ) (r : EntryFound) → r ≡ entryAt isSemicolon s n → IsEntry s n r
+entry-is s n r is = record { says = ap (entryIn s) is ∙ entry-says s n; range = is }
+
 -- what `container_policy` answers says the container policy
 policy-else : (s : List ℕ) (mark : Bool) (n : ℕ) (r : EntryFound) → policyIn s (policyElse (pick (mark && eqb n fullscreen) policy.All policy.None) r) ≡ entryElse (allowedFullscreen mark n) (entryIn s r)
 unfolding policyElse entryElse allowedFullscreen
@@ -58,6 +61,9 @@ policy-else s mark n entry.None = go (mark && eqb n fullscreen)
 pub policy-says : (s : List ℕ) (mark : Bool) (n : ℕ) → policyIn s (policyAt s mark n) ≡ containerPolicy s mark n
 unfolding policyAt containerPolicy
 policy-says s mark n = policy-else s mark n (entryAt isSemicolon s n) ∙ ap (entryElse (allowedFullscreen mark n)) (entry-says s n)
+
+pub policy-is : (s : List ℕ) (mark : Bool) (n : ℕ) (r : ContainerPolicy) → r ≡ policyAt s mark n → IsPolicy s mark n r
+policy-is s mark n r is = record { says = ap (policyIn s) is ∙ policy-says s mark n; range = is }
 
 -- the same, answer by answer: what `entry_admits` says of the range is what the container policy's list says
 module _ (s : List ℕ) (mark : Bool) (n : ℕ) (r : ContainerPolicy) (is : r ≡ policyAt s mark n) where
@@ -139,6 +145,10 @@ declared-said s container sandboxed noOrigin f = refl
 
 pub declared-says : (src : List ℕ) (container : Origin) (sandboxed : Bool) → declaredIn src container (declaredBy sandboxed (originAs (originOf src))) ≡ declaredOrigin sandboxed (originOf src) container
 declared-says src container sandboxed = declared-said src container sandboxed (originOf src) (λ o e. tuple-range src o e)
+
+pub declared-is : (sandboxed : Bool) (src : OriginText) (r : DeclaredOrigin) → r ≡ declaredBy sandboxed src → IsDeclared sandboxed src r
+declared-is sandboxed src r is =
+    record { says = λ s container read. ap (declaredIn s container) (is ∙ ap (declaredBy sandboxed) read) ∙ declared-says s container sandboxed; range = is }
 
 -- the same, answer by answer
 module _ (s : List ℕ) (container : Origin) (sandboxed : Bool) (x : OriginText) (read : x ≡ originAs (originOf s)) (r : DeclaredOrigin) (is : r ≡ declaredBy sandboxed x) where

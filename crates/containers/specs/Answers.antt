@@ -1,4 +1,5 @@
 -- What the code's answers mean beside the texts that they are about.
+use mathlib.Core.Path.{_≡_}
 use Prim.Native.Nat.{ℕ, _+_, _-_}
 use mathlib.Core.List.{List, [], _∷_}
 use mathlib.Core.Bool.{Bool, not, _&&_}
@@ -8,16 +9,17 @@ use lib.Dec.{eqb}
 use Rattle.ascii.specs.Bytes.{pick, isWhite}
 use Rattle.ascii.specs.Reading.{past}
 use Rattle.ascii.specs.Texts.{partOf}
-use Rattle.origins.specs.Origins.{Origin}
+use Rattle.origins.specs.Origins.{Origin, originOf}
 use Rattle.origins.specs.Origins.Origin.{tuple, fresh}
-use Rattle.origins.specs.Answers.{expressionRange, tupleIn}
+use Rattle.origins.specs.Answers.{originAs, expressionRange, tupleIn}
 use Rattle.origins.specs.declared.OriginText.{OriginText}
 use Rattle.origins.specs.declared.OriginText.the-variants as text
-use Rattle.containers.specs.Attributes.{cutAt, words, isSemicolon, isFor}
+use Rattle.containers.specs.Attributes.{cutAt, words, isSemicolon, isFor, entryOf}
 use Rattle.containers.specs.Allowlists.{Allowlist, Meaning, entryList}
 use Rattle.containers.specs.Allowlists.Allowlist.{all}
 use Rattle.containers.specs.Allowlists.Meaning.{star, self, src, source, nothing}
-use Rattle.containers.specs.Policies.{fullscreen}
+use Rattle.containers.specs.Policies.{fullscreen, containerPolicy}
+use Rattle.containers.specs.Sandboxes.{declaredOrigin}
 use Rattle.containers.specs.declared.WordMeaning.{WordMeaning}
 use Rattle.containers.specs.declared.WordMeaning.the-variants as meaning
 use Rattle.containers.specs.declared.WordsRange.{WordsRange}
@@ -69,6 +71,11 @@ lastAt n at (p ∷ ps) found = lastAt n (at + length p + 1) ps (pieceEntry n at 
 unfoldable pub entryAt : (ℕ → Bool) → List ℕ → ℕ → EntryFound
 entryAt ends s n = lastAt n 0 (cutAt ends s) entry.None
 
+-- what `entry` promises: the entry, and where its words stand
+pub record IsEntry (s : List ℕ) (n : ℕ) (r : EntryFound) : Type 0 where
+  pub says : entryIn s r ≡ entryOf isSemicolon s n
+  pub range : r ≡ entryAt isSemicolon s n
+
 -- what an answer says of a container policy: none, or an allowlist
 abbrev pub policyIn : List ℕ → ContainerPolicy → Option Allowlist
 policyIn s policy.None = none
@@ -83,6 +90,11 @@ policyElse other entry.None = other
 unfoldable pub policyAt : List ℕ → Bool → ℕ → ContainerPolicy
 policyAt s mark n = policyElse (pick (mark && eqb n fullscreen) policy.All policy.None) (entryAt isSemicolon s n)
 
+-- what `container_policy` promises: the container policy, and where its words stand
+pub record IsPolicy (s : List ℕ) (mark : Bool) (n : ℕ) (r : ContainerPolicy) : Type 0 where
+  pub says : policyIn s r ≡ containerPolicy s mark n
+  pub range : r ≡ policyAt s mark n
+
 -- the origin that an answer names beside the text of src and the container's origin; none where src is no origin text
 abbrev pub declaredIn : List ℕ → Origin → DeclaredOrigin → Option Origin
 declaredIn s container declared.Fresh = some fresh
@@ -96,3 +108,8 @@ declaredBy sandboxed text.Empty = pick sandboxed declared.Fresh declared.Contain
 declaredBy sandboxed text.Null = declared.Fresh
 declaredBy sandboxed (text.Tuple r) = pick sandboxed declared.Fresh (declared.Src r)
 declaredBy sandboxed text.NotAnOrigin = declared.NotAnOrigin
+
+-- what `declared_origin` promises, told what was read of src: the declared origin beside every text that reads so and every container's origin
+pub record IsDeclared (sandboxed : Bool) (src : OriginText) (r : DeclaredOrigin) : Type 0 where
+  pub says : (s : List ℕ) (container : Origin) → src ≡ originAs (originOf s) → declaredIn s container r ≡ declaredOrigin sandboxed (originOf s) container
+  pub range : r ≡ declaredBy sandboxed src

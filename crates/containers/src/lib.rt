@@ -8,7 +8,7 @@ ghost use Rattle.origins.specs.Answers.{originIn};
 ghost use Rattle.containers.specs.Attributes.{isSemicolon, words};
 ghost use Rattle.containers.specs.Allowlists.{meaningOf, listOf, entryList, listAdmits};
 ghost use Rattle.containers.specs.Sandboxes.{sandboxOf, hasKeyword, isSandboxed};
-ghost use Rattle.containers.specs.Answers.{meaningAs, wordsIn, pieceEntry, entryAt, policyAt, declaredBy};
+ghost use Rattle.containers.specs.Answers.{meaningAs, wordsIn, pieceEntry, IsEntry, IsPolicy, IsDeclared};
 use ascii::Class;
 use features::Lookup;
 use origins::ExpressionRange;
@@ -78,7 +78,7 @@ fn piece_entry(s: &[u8], from: usize, to: usize, n: u32, found: EntryFound) -> E
 
 // The entry of a feature: the last piece for it.
 pub fn entry(allow: &[u8], n: u32) -> EntryFound
-    ensures { λ r. ⌜ r ≡ entryAt isSemicolon (now (allow .entry)) n ⌝ }
+    ensures { λ r. ⌜ IsEntry (now (allow .entry)) n r ⌝ }
 {
     let mut found = EntryFound::None;
     let mut i: usize = 0;
@@ -174,7 +174,7 @@ pub fn entry_admits(
 
 // What a frame's allow attribute and allowfullscreen say for a feature.
 pub fn container_policy(allow: &[u8], allowfullscreen: bool, n: u32) -> ContainerPolicy
-    ensures { λ r. ⌜ r ≡ policyAt (now (allow .entry)) allowfullscreen n ⌝ }
+    ensures { λ r. ⌜ IsPolicy (now (allow .entry)) allowfullscreen n r ⌝ }
 {
     match entry(allow, n) {
         EntryFound::Words(w) => ContainerPolicy::Words(w),
@@ -222,7 +222,7 @@ pub fn is_sandboxed(container_sandboxed: bool, has_sandbox: bool, sandbox: &[u8]
 
 // The declared origin of a frame whose document is sandboxed or not, by what src says.
 pub fn declared_origin(sandboxed: bool, src: OriginText) -> DeclaredOrigin
-    ensures { λ r. ⌜ r ≡ declaredBy sandboxed src ⌝ }
+    ensures { λ r. ⌜ IsDeclared sandboxed src r ⌝ }
 {
     match src {
         OriginText::NotAnOrigin => DeclaredOrigin::NotAnOrigin,

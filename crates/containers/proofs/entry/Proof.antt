@@ -6,6 +6,7 @@ use native.Mathlib.Omega.{arith}
 use Rattle.containers.specs.Attributes.{cutAt, isSemicolon}
 use Rattle.containers.specs.Answers.{lastAt, entryAt}
 use Rattle.containers.proofs.Entries.{entry-start, pieces-on, pieces-end}
+use Rattle.containers.proofs.Laws.{entry-is}
 use borrow.Author.Needs.{needs}
 use Rattle.containers.proofs.entry.Statement.{statement}
 use Rattle.containers.proofs.entry.Tie as tie
@@ -28,4 +29,4 @@ entry-spec =
     (λ c. omega arith)
     (λ c. omega arith)
     (λ c. (omega arith, search pieces-on))
-    (λ c. search pieces-end))
+    (λ c. search (pieces-end, entry-is)))
