@@ -14,14 +14,14 @@ use Rattle.ascii.proofs.Texts.{bytes-same, same-bytes}
 use Rattle.features.specs.Features.{featureCount, nameOf, featureOf}
 use Rattle.features.proofs.Laws.{found, found-name}
 use Rattle.origins.specs.Origins.{Origin, TupleOrigin, OriginSaid, originOf}
-use Rattle.origins.specs.Origins.Origin.{tuple, fresh}
+use Rattle.origins.specs.Origins.Origin.{tuple, opaque, fresh}
 use Rattle.origins.specs.Origins.OriginSaid.{saysEmpty, saysNull, saysTuple, noOrigin}
 use Rattle.origins.specs.Answers.{originAs, tupleRange, tupleIn}
 use Rattle.origins.specs.Expressions.{SourceExpression}
 use Rattle.origins.specs.declared.OriginText.{OriginText}
 use Rattle.origins.specs.declared.TupleRange.{TupleRange}
 use Rattle.origins.specs.Matching.{sameOrigin}
-use Rattle.origins.proofs.Laws.{tuple-range, fresh-right, admits-fresh}
+use Rattle.origins.proofs.Laws.{tuple-range, fresh-right, admits-fresh, admits-opaque}
 use Rattle.containers.specs.Attributes.{cutAt, words, isSemicolon, entries, isThe, isFor, furtherWords, lastFor, entryOf}
 use Rattle.containers.specs.Allowlists.{Allowlist, hasStar, listOf, listOr, declaredOnly, entryList, anyAdmits, listAdmits, allows}
 use Rattle.containers.specs.Allowlists.Allowlist.{all, listed}
@@ -96,6 +96,23 @@ pub fresh-all : (l : Allowlist) (container declared : Origin) → allows l conta
 unfolding listAdmits
 fresh-all all container declared e = refl
 fresh-all (listed a b es) container declared e = go a b (rw (fresh-right container, fresh-right declared, fresh-sources es) at e)
+  where
+    go : (x y : Bool) → x && false || y && false || false ≡ true → listed a b es ≡ all
+    go true true f = absurd (let z : _≡_ {A = ℕ} 0 1 = cc in omega arith)
+    go true false f = absurd (let z : _≡_ {A = ℕ} 0 1 = cc in omega arith)
+    go false true f = absurd (let z : _≡_ {A = ℕ} 0 1 = cc in omega arith)
+    go false false f = absurd (let z : _≡_ {A = ℕ} 0 1 = cc in omega arith)
+
+-- and an opaque origin that is neither the container's nor the declared one
+opaque-sources : (es : List SourceExpression) (n : ℕ) → anyAdmits es (opaque n) ≡ false
+unfolding anyAdmits
+opaque-sources [] n = refl
+opaque-sources (e ∷ es) n = rw (admits-opaque e n, opaque-sources es n)
+
+pub opaque-all : (l : Allowlist) (container declared : Origin) (n : ℕ) → sameOrigin container (opaque n) ≡ false → sameOrigin declared (opaque n) ≡ false → allows l container declared (opaque n) ≡ true → l ≡ all
+unfolding listAdmits
+opaque-all all container declared n h k e = refl
+opaque-all (listed a b es) container declared n h k e = go a b (rw (h, k, opaque-sources es n) at e)
   where
     go : (x y : Bool) → x && false || y && false || false ≡ true → listed a b es ≡ all
     go true true f = absurd (let z : _≡_ {A = ℕ} 0 1 = cc in omega arith)

@@ -10,6 +10,7 @@ use lib.Pow.{mod-pow-add}
 use lib.Dec.{ltb, eqb}
 use lib.ListN.{getD}
 use borrow.Author.Tests.{ltb-true, ltb-false}
+use Rattle.ascii.proofs.Bytes.{and-false}
 use Rattle.features.specs.Features.{Default, featureCount, defaultOf}
 use Rattle.features.specs.Features.Default.{star, self}
 use Rattle.features.specs.Answers.{defaultAs}
@@ -19,7 +20,7 @@ use Rattle.origins.specs.Origins.Origin.{tuple, opaque, fresh}
 use Rattle.origins.specs.Matching.{sameOrigin}
 use Rattle.origins.specs.Answers.{originIn}
 use Rattle.origins.specs.declared.OriginRange.{OriginRange}
-use Rattle.origins.proofs.Laws.{tuple-self, opaque-self}
+use Rattle.origins.proofs.Laws.{tuple-self, opaque-self, fresh-left}
 use Rattle.declarations.specs.Allowlists.{Allowlist, allows}
 use Rattle.declarations.specs.Allowlists.Allowlist.{all, listed}
 use Rattle.declarations.specs.Settings.{settingAs, someAdmits, admissionAs}
@@ -27,9 +28,9 @@ use Rattle.declarations.specs.Widening.{DeclaresMore}
 use Rattle.declarations.specs.Widening.DeclaresMore.{neither, both}
 use Rattle.declarations.specs.declared.Setting.{Setting}
 use Rattle.declarations.specs.declared.Admission.{Admission}
-use Rattle.declarations.proofs.Laws.{some-allows, none-allows, more-self, listed-fresh}
+use Rattle.declarations.proofs.Laws.{some-allows, none-allows, more-self, listed-fresh, listed-opaque}
 use Rattle.containers.specs.Allowlists as attribute
-use Rattle.containers.proofs.Laws.{fresh-all}
+use Rattle.containers.proofs.Laws.{fresh-all, opaque-all}
 use Rattle.containers.specs.Answers.{policyIn}
 use Rattle.containers.specs.Widening.{AllowsMore}
 use Rattle.containers.specs.Widening as widening
@@ -154,6 +155,10 @@ fresh-list : (l : Allowlist) (own : Origin) → allows l own fresh ≡ true → 
 fresh-list all own e = refl
 fresh-list (listed b es) own e = absurd (let f : allows (listed b es) own fresh ≡ false = listed-fresh b es own in let z : _≡_ {A = ℕ} 0 1 = cc in omega arith)
 
+opaque-list : (l : Allowlist) (own : Origin) (n : ℕ) → sameOrigin own (opaque n) ≡ false → allows l own (opaque n) ≡ true → l ≡ all
+opaque-list all own n h e = refl
+opaque-list (listed b es) own n h e = absurd (let f : allows (listed b es) own (opaque n) ≡ false = listed-opaque b es own n ∙ (rw h (and-false b)) in let z : _≡_ {A = ℕ} 0 1 = cc in omega arith)
+
 unless-then : (d e : Decision) → unlessDisabled d e ≡ enabled → e ≡ enabled
 unfolding unlessDisabled
 unless-then disabled e k = absurd (let z : _≡_ {A = ℕ} 0 1 = cc in omega arith)
@@ -170,6 +175,32 @@ unfolding inheritedFramed inheritedBy byList attributeAdmits
 inherited-fresh c d l default container declared e =
     let k = decided (attribute.allows l container declared fresh) in
     fresh-all l container declared (decided-yes (attribute.allows l container declared fresh) (unless-then d k (unless-then c (unlessDisabled d k) e)))
+
+-- an opaque origin too, where it is not the container's: a sandboxed document arrives at one, and its frame's declared origin is fresh
+pub value-opaque : (i : Decision) (l : Allowlist) (own : Origin) (n : ℕ) → sameOrigin own (opaque n) ≡ false → value i (some l) own (opaque n) ≡ enabled → l ≡ all
+unfolding value valueBy byList
+value-opaque i l own n h e =
+    opaque-list l own n h
+    (decided-yes (allows l own (opaque n)) (rw (some-allows l own (opaque n)) at (unless-then i (byList (someAdmits (some l) (sameOrigin own (opaque n)) (opaque n)) enabled) e)))
+
+pub inherited-opaque : (c d : Decision) (l : attribute.Allowlist) (default : Option Default) (container : Origin) (n : ℕ) → sameOrigin container (opaque n) ≡ false → inheritedFramed c d (some l) default container fresh (opaque n) ≡ enabled → l ≡ attribute.Allowlist.all
+unfolding inheritedFramed inheritedBy byList attributeAdmits
+inherited-opaque c d l default container n h e =
+    let k = decided (attribute.allows l container fresh (opaque n)) in
+    opaque-all l container fresh n h (fresh-left (opaque n)) (decided-yes (attribute.allows l container fresh (opaque n)) (unless-then d k (unless-then c (unlessDisabled d k) e)))
+
+-- without an entry only the default `*` admits an origin that is not the container's
+default-star : (default : Option Default) → byDefault default false ≡ enabled → default ≡ some star
+unfolding byDefault decided
+default-star (some star) e = refl
+default-star (some self) e = absurd (let z : _≡_ {A = ℕ} 0 1 = cc in omega arith)
+default-star none e = absurd (let z : _≡_ {A = ℕ} 0 1 = cc in omega arith)
+
+pub inherited-default : (c d : Decision) (default : Option Default) (container declared arriving : Origin) → sameOrigin container arriving ≡ false → inheritedFramed c d none default container declared arriving ≡ enabled → default ≡ some star
+unfolding inheritedFramed inheritedBy byList attributeAdmits
+inherited-default c d default container declared arriving h e =
+    let k = byDefault default false in
+    default-star default (unless-then d k (unless-then c (unlessDisabled d k) (rw h at e)))
 
 -- what stays Enabled: decisions put together from decisions that do
 pub stays-self : (d : Decision) → Stays d d
