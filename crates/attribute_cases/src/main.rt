@@ -123,9 +123,8 @@ fn is_container(t: &[u8], o: OriginRange) -> bool {
 }
 
 // The document that arrives, asked at its own origin; it has no header.
-fn arriving(line: &[u8]) {
+fn arrived(line: &[u8], t: &[u8]) {
     let src = field(line, 4);
-    let t = field(line, 5);
     let n = feature(field(line, 6));
     let full = containers::has_keyword(field(line, 0), b"allowfullscreen");
     let o = origin(t);
@@ -144,6 +143,16 @@ fn arriving(line: &[u8]) {
     let inherited = inherits(field(line, 1), field(line, 2), full, n, t, a);
     let default = features::default_of(n);
     put_decision(decisions::question(inherited, Admission::Undeclared, default, true));
+}
+
+// An empty text is the container's origin.
+fn arriving(line: &[u8]) {
+    let t = field(line, 5);
+    if t.len() == 0 {
+        arrived(line, b"https://a.example");
+        return;
+    }
+    arrived(line, t);
 }
 
 // The container, asked at its own origin.
