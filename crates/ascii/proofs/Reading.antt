@@ -11,6 +11,7 @@ use lib.Seq.{drop-cons, drop-drop, take-at}
 use lib.Dec.{eqb, leb}
 use borrow.Author.Tests.{eq-eqb, ne-eqb, not-true, not-false, le-leb, lt-leb, leb-true, leb-false}
 use borrow.Author.Needs.{needs}
+use Rattle.ascii.proofs.Clash.{clash}
 use Rattle.ascii.specs.Bytes.{pick, within, isKeyStart, isKeyByte, isTokenStart, isTokenByte, isLower, isDigit, isAlpha}
 use Rattle.ascii.specs.Classes.{inClass}
 use Rattle.ascii.specs.declared.Class.the-variants.{Key, Token}
@@ -198,7 +199,7 @@ module _ {A : Type 0} (s : List ℕ) (R : Option (List ℕ)) where
       rw (← m) (h x)
   rest-after malformed r q f e g h =
       let d : some (drop q s) ≡ none = sym (ap (leftAt s) g) ∙ e in
-      absurd (let z : _≡_ {A = ℕ} 0 1 = cc in omega arith)
+      clash cc
 
 pub rest-map : {A B : Type 0} (R : Option (List ℕ)) (g : A → B) (a : Parsed A) → R ≡ restOf a → R ≡ restOf (mapped g a)
 unfolding mapped restOf
@@ -235,7 +236,7 @@ pub rest-malformed : {A B : Type 0} (s : List ℕ) (a : Parsed B) (r : Read) (f 
 unfolding after restOf leftAt
 rest-malformed s (parsed x l) r f e g =
     let d : none ≡ some l = sym (ap (leftAt s) g) ∙ e in
-    absurd (let z : _≡_ {A = ℕ} 0 1 = cc in omega arith)
+    clash cc
 rest-malformed s malformed r f e g = refl
 
 pub rest-parsed : {A : Type 0} (s : List ℕ) (x : A) (q : ℕ) (l : List ℕ) → drop q s ≡ l → leftAt s (read.At q) ≡ restOf (parsed x l)
@@ -278,13 +279,13 @@ module _ {A : Type 0} (s : List ℕ) (R : Went) where
       rw (← m) (h x)
   went-after malformed r q f e g h =
       let d : some (drop q s) ≡ none = sym (ap (leftAt s) g) ∙ e in
-      absurd (let z : _≡_ {A = ℕ} 0 1 = cc in omega arith)
+      clash cc
 
 pub went-malformed : {A B : Type 0} (s : List ℕ) (a : Parsed B) (r : Read) (f : B → List ℕ → Step A) → leftAt s r ≡ restOf a → r ≡ read.Malformed → wentAt s turn.Malformed ≡ wentOf (going a f)
 unfolding going restOf leftAt wentOf wentAt
 went-malformed s (parsed x l) r f e g =
     let d : none ≡ some l = sym (ap (leftAt s) g) ∙ e in
-    absurd (let z : _≡_ {A = ℕ} 0 1 = cc in omega arith)
+    clash cc
 went-malformed s malformed r f e g = refl
 
 module _ {A : Type 0} (s : List ℕ) where

@@ -6,6 +6,7 @@ use mathlib.Core.Bool.{Bool, true, false}
 use native.Mathlib.Omega.{arith}
 use lib.ListN.{length, drop, length-append}
 use lib.Seq.{drop-at}
+use Rattle.ascii.proofs.Clash.{clash}
 use Rattle.ascii.specs.Bytes.{pick}
 use Rattle.ascii.specs.Reading.{Parsed, Step, next, skip, letLen, runOf, past, after, mapped, going, adding, onStep, turns}
 use Rattle.ascii.specs.Reading.Parsed.{parsed, malformed}
@@ -53,7 +54,7 @@ module _ {A : Type 0} (l : List ℕ) where
   ends-parsed x m h = record { ends = λ a n e. let w : m ≡ n = cc in rw w at h }
 
   pub ends-malformed : Ends {A = A} l malformed
-  ends-malformed = record { ends = λ a n e. absurd (let z : _≡_ {A = ℕ} 0 1 = cc in omega arith) }
+  ends-malformed = record { ends = λ a n e. clash cc }
 
   pub ends-pick : (b : Bool) (x y : Parsed A) → Ends l x → Ends l y → Ends l (pick b x y)
   unfolding pick
@@ -90,13 +91,13 @@ module _ {A : Type 0} (l : List ℕ) where
 
   -- the same of a turn
   pub step-more : (x : List A) (m : List ℕ) → Suffix m l → StepEnds l (more x m)
-  step-more x m h = record { goes-on = λ a n e. (let w : m ≡ n = cc in rw w at h); stops = λ a n e. absurd (let z : _≡_ {A = ℕ} 0 1 = cc in omega arith) }
+  step-more x m h = record { goes-on = λ a n e. (let w : m ≡ n = cc in rw w at h); stops = λ a n e. clash cc }
 
   pub step-done : (x : List A) (m : List ℕ) → Suffix m l → StepEnds l (done x m)
-  step-done x m h = record { goes-on = λ a n e. absurd (let z : _≡_ {A = ℕ} 0 1 = cc in omega arith); stops = λ a n e. (let w : m ≡ n = cc in rw w at h) }
+  step-done x m h = record { goes-on = λ a n e. clash cc; stops = λ a n e. (let w : m ≡ n = cc in rw w at h) }
 
   pub step-fail : StepEnds {A = A} l fail
-  step-fail = record { goes-on = λ a n e. absurd (let z : _≡_ {A = ℕ} 0 1 = cc in omega arith); stops = λ a n e. absurd (let z : _≡_ {A = ℕ} 0 1 = cc in omega arith) }
+  step-fail = record { goes-on = λ a n e. clash cc; stops = λ a n e. clash cc }
 
   pub step-pick : (b : Bool) (x y : Step A) → StepEnds l x → StepEnds l y → StepEnds l (pick b x y)
   unfolding pick

@@ -4,13 +4,12 @@ use Prim.Native.Nat.{ℕ, zero, suc, _+_, _-_, _≤_, _<_}
 use native.Mathlib.Nat.{le-of-suc-le-suc, not-suc-le-zero}
 use mathlib.Core.List.{List, [], _∷_, _++_}
 use mathlib.Core.Bool.{Bool, true, false, _&&_}
-use native.Mathlib.Omega.{arith}
 use native.Mathlib.Numerals.{add-one}
 use lib.ListN.{length, getD, take, drop, drop-of-length-le}
 use lib.Seq.{drop-cons, take-length}
 use lib.Dec.{eqb}
 use borrow.Author.Tests.{eq-eqb, ne-eqb, eqb-true, le-leb, lt-leb}
-use borrow.Author.Needs.{needs}
+use Rattle.ascii.proofs.Clash.{clash}
 use Rattle.ascii.specs.Bytes.{pick}
 use Rattle.ascii.specs.Texts.{every, each, sameBy, sameBytes, partOf}
 use Rattle.ascii.specs.Reading.{headOf, runOf, past}
@@ -20,13 +19,13 @@ use Rattle.ascii.proofs.Bytes.{and-left, and-right}
 pub same-is : (f : ℕ → ℕ) (a b : List ℕ) → sameBy f a b ≡ true → each f a ≡ b
 unfolding sameBy each pick
 same-is f [] [] e = refl
-same-is f [] (y ∷ ys) e = absurd (let z : _≡_ {A = ℕ} 0 1 = cc in omega arith)
-same-is f (x ∷ xs) [] e = absurd (let z : _≡_ {A = ℕ} 0 1 = cc in omega arith)
+same-is f [] (y ∷ ys) e = clash cc
+same-is f (x ∷ xs) [] e = clash cc
 same-is f (x ∷ xs) (y ∷ ys) e = go (eqb (f x) y) refl e (λ h. same-is f xs ys h)
   where
     go : (b : Bool) → eqb (f x) y ≡ b → pick b (sameBy f xs ys) false ≡ true → (sameBy f xs ys ≡ true → each f xs ≡ ys) → f x ∷ each f xs ≡ y ∷ ys
     go true t h ih = let u : f x ≡ y = eqb-true (f x) y t in let v : each f xs ≡ ys = ih h in cc
-    go false t h ih = absurd (let z : _≡_ {A = ℕ} 0 1 = cc in omega arith)
+    go false t h ih = clash cc
 
 pub is-same : (f : ℕ → ℕ) (a : List ℕ) → sameBy f a (each f a) ≡ true
 unfolding sameBy each pick
@@ -82,7 +81,6 @@ module _ (a b : List ℕ) (i : ℕ) (r : Bool) where
   pub byte-ne : i < length a → i < length b → (getD a i 0 ≡ getD b i 0 → ⊥) → sameBytes (drop i a) (drop i b) ≡ r → false ≡ r
   byte-ne h g q e = same-ne (λ x. x) a b i r (getD a i 0) refl h g q e
 
-pub ruleset sames = (same-end, same-long, same-short, byte-more, byte-ne, needs)
 
 -- a part that lies in the text, and one that doesn't
 module _ (s : List ℕ) (a e : ℕ) where

@@ -53,6 +53,13 @@ isText b = within 32 126 b
 abbrev pub isLabelByte : ℕ → Bool
 isLabelByte b = isLower b || isDigit b || eqb b 45
 
+-- RFC 8941: SP, and its OWS, spaces and tabs
+abbrev pub isSpace : ℕ → Bool
+isSpace b = eqb b 32
+
+abbrev pub isBlank : ℕ → Bool
+isBlank b = eqb b 32 || eqb b 9
+
 -- 01, "Header and attribute": "tabs, line feeds, form feeds, returns and spaces"
 abbrev pub isWhite : ℕ → Bool
 isWhite b = eqb b 9 || eqb b 10 || eqb b 12 || eqb b 13 || eqb b 32

@@ -4,3 +4,4 @@ pub mod Literals
 pub mod Texts
 pub mod Reading
 pub mod Places
+pub mod Computing

@@ -1,10 +1,10 @@
 // Bytes and places of a text: classes, ASCII case, comparing, parts, runs.
 ghost use mathlib.Core.Path.{_≡_};
-ghost use Prim.Native.Nat.{min};
-ghost use lib.ListN.{length};
+ghost use Prim.Native.Nat.{_+_, _≤_, min};
+ghost use lib.ListN.{length, drop};
 ghost use Rattle.ascii.specs.Bytes.{isDigit, isUpper, isKeyStart, isKeyByte, isTokenStart, isTokenByte, isBase64, isText, isLabelByte, isWhite, lower};
 ghost use Rattle.ascii.specs.Classes.{inClass};
-ghost use Rattle.ascii.specs.Texts.{sameBytes, sameLowered, partOf};
+ghost use Rattle.ascii.specs.Texts.{sameBytes, sameLowered, fourSame, partOf};
 ghost use Rattle.ascii.specs.Places.{IsByte, IsRun};
 
 pub fn is_digit(b: u8) -> bool
@@ -112,6 +112,8 @@ pub enum Class {
     Base64,
     // any byte but this one
     Not(u8),
+    // any byte but these two
+    Neither(u8, u8),
 }
 
 pub fn in_class(k: Class, b: u8) -> bool
@@ -127,24 +129,49 @@ pub fn in_class(k: Class, b: u8) -> bool
         Class::Token => is_token_byte(b),
         Class::Base64 => is_base64(b),
         Class::Not(x) => b != x,
+        Class::Neither(x, y) => (b != x) & (b != y),
     }
 }
 
-// Whether two texts are the same bytes.
-pub fn same(a: &[u8], b: &[u8]) -> bool
-    ensures { λ r. ⌜ r ≡ sameBytes (now (a .entry)) (now (b .entry)) ⌝ }
+// Whether four bytes from a place on are the same; the compiler makes one comparison of it.
+fn four_same(a: &[u8], b: &[u8], i: usize) -> bool
+    requires { ⌜ (i + 4 ≤ length (now a)) × (i + 4 ≤ length (now b)) ⌝ }
+    ensures { λ r. ⌜ r ≡ fourSame (now (a .entry)) (now (b .entry)) i ⌝ }
 {
-    let mut i: usize = 0;
+    (a[i] == b[i]) & (a[i + 1] == b[i + 1]) & (a[i + 2] == b[i + 2]) & (a[i + 3] == b[i + 3])
+}
+
+// Whether two texts of one length are the same from a place on.
+fn same_from(a: &[u8], b: &[u8], at: usize) -> bool
+    requires { ⌜ (at ≤ length (now a)) × (length (now a) ≡ length (now b)) ⌝ }
+    ensures { λ r. ⌜ r ≡ sameBytes (drop at (now (a .entry))) (drop at (now (b .entry))) ⌝ }
+{
+    let mut i = at;
     while i < a.len() {
-        if b.len() <= i {
-            return false;
-        }
         if a[i] != b[i] {
             return false;
         }
         i += 1;
     }
-    if i < b.len() { false } else { true }
+    true
+}
+
+// Whether two texts are the same bytes: by their lengths first, and then four bytes at a time.
+pub fn same(a: &[u8], b: &[u8]) -> bool
+    ensures { λ r. ⌜ r ≡ sameBytes (now (a .entry)) (now (b .entry)) ⌝ }
+{
+    let n = a.len();
+    if n != b.len() {
+        return false;
+    }
+    let mut i: usize = 0;
+    while 4 <= n - i {
+        if !four_same(a, b, i) {
+            return false;
+        }
+        i += 4;
+    }
+    same_from(a, b, i)
 }
 
 // Whether `a`, its letters in lower case, is `b`.
@@ -163,6 +190,12 @@ pub fn same_lowered(a: &[u8], b: &[u8]) -> bool
         i += 1;
     }
     if i < b.len() { false } else { true }
+}
+
+// Where a part of a text stands.
+pub struct TextRange {
+    pub from: usize,
+    pub to: usize,
 }
 
 // The part of a text from a place up to another; empty where that is no part of it.

@@ -8,6 +8,7 @@ use native.Mathlib.Omega.{arith}
 use lib.ListN.{length}
 use lib.Dec.{eqb}
 use borrow.Author.Tests.{eq-eqb, ne-eqb}
+use Rattle.ascii.proofs.Clash.{clash}
 use Rattle.ascii.specs.Bytes.{pick}
 use Rattle.ascii.specs.Texts.{sameBytes}
 use Rattle.ascii.proofs.Texts.{bytes-same, same-bytes}
@@ -98,10 +99,10 @@ fresh-all all container declared e = refl
 fresh-all (listed a b es) container declared e = go a b (rw (fresh-right container, fresh-right declared, fresh-sources es) at e)
   where
     go : (x y : Bool) → x && false || y && false || false ≡ true → listed a b es ≡ all
-    go true true f = absurd (let z : _≡_ {A = ℕ} 0 1 = cc in omega arith)
-    go true false f = absurd (let z : _≡_ {A = ℕ} 0 1 = cc in omega arith)
-    go false true f = absurd (let z : _≡_ {A = ℕ} 0 1 = cc in omega arith)
-    go false false f = absurd (let z : _≡_ {A = ℕ} 0 1 = cc in omega arith)
+    go true true f = clash cc
+    go true false f = clash cc
+    go false true f = clash cc
+    go false false f = clash cc
 
 -- and an opaque origin that is neither the container's nor the declared one
 opaque-sources : (es : List SourceExpression) (n : ℕ) → anyAdmits es (opaque n) ≡ false
@@ -115,15 +116,15 @@ opaque-all all container declared n h k e = refl
 opaque-all (listed a b es) container declared n h k e = go a b (rw (h, k, opaque-sources es n) at e)
   where
     go : (x y : Bool) → x && false || y && false || false ≡ true → listed a b es ≡ all
-    go true true f = absurd (let z : _≡_ {A = ℕ} 0 1 = cc in omega arith)
-    go true false f = absurd (let z : _≡_ {A = ℕ} 0 1 = cc in omega arith)
-    go false true f = absurd (let z : _≡_ {A = ℕ} 0 1 = cc in omega arith)
-    go false false f = absurd (let z : _≡_ {A = ℕ} 0 1 = cc in omega arith)
+    go true true f = clash cc
+    go true false f = clash cc
+    go false true f = clash cc
+    go false false f = clash cc
 
 -- "A word `*` makes the list `*`"
 pub star-all : (bare : Allowlist) (ws : List (List ℕ)) → hasStar ws ≡ true → listOr bare ws ≡ all
 unfolding listOr listOf hasStar
-star-all bare [] e = absurd (let z : _≡_ {A = ℕ} 0 1 = cc in omega arith)
+star-all bare [] e = clash cc
 star-all bare (w ∷ ws) e = unfold pick in (rw e)
 
 -- an empty attribute has no entry, as an absent one
@@ -142,11 +143,11 @@ for-name n w ws h = go (featureOf w) refl (sameBytes w (nameOf n)) refl
   where
     no : (m : ℕ) (b : Bool) → featureOf w ≡ some m → sameBytes w (nameOf n) ≡ b → eqb m n ≡ b
     no m true e t = let q : w ≡ nameOf n = bytes-same w (nameOf n) t in let f : featureOf w ≡ some n = ap featureOf q ∙ found n h in let k : m ≡ n = cc in eq-eqb m n k
-    no m false e t = ne-eqb m n (λ k. let q : w ≡ nameOf m = found-name w m e in let f : sameBytes w (nameOf n) ≡ true = rw (q, k) (same-bytes (nameOf n)) in let z : _≡_ {A = ℕ} 0 1 = cc in omega arith)
+    no m false e t = ne-eqb m n (λ k. let q : w ≡ nameOf m = found-name w m e in let f : sameBytes w (nameOf n) ≡ true = rw (q, k) (same-bytes (nameOf n)) in clash cc)
 
     go : (x : Option ℕ) → featureOf w ≡ x → (b : Bool) → sameBytes w (nameOf n) ≡ b → isThe n x ≡ b
     go (some m) e b t = no m b e t
-    go none e true t = let q : w ≡ nameOf n = bytes-same w (nameOf n) t in let f : featureOf w ≡ some n = ap featureOf q ∙ found n h in absurd (let z : _≡_ {A = ℕ} 0 1 = cc in omega arith)
+    go none e true t = let q : w ≡ nameOf n = bytes-same w (nameOf n) t in let f : featureOf w ≡ some n = ap featureOf q ∙ found n h in clash cc
     go none e false t = refl
 
 -- what `declared_origin` answers for a src text is the declared origin; none where src is no origin text
@@ -198,7 +199,7 @@ unfolding declaredOrigin srcOrigin unless pick
 sandboxed-fresh saysEmpty container o e = cc
 sandboxed-fresh saysNull container o e = cc
 sandboxed-fresh (saysTuple t) container o e = cc
-sandboxed-fresh noOrigin container o e = absurd (let z : _≡_ {A = ℕ} 0 1 = cc in omega arith)
+sandboxed-fresh noOrigin container o e = clash cc
 
 -- a frame of a sandboxed document is sandboxed, with whatever attribute
 pub sandboxed-below : (attribute : Option (List (List ℕ))) → isSandboxed true attribute ≡ true

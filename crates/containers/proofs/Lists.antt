@@ -7,6 +7,7 @@ use mathlib.Core.Option.{Option, some, none}
 use native.Mathlib.Omega.{arith}
 use lib.ListN.{length, getD, take, drop, length-drop}
 use borrow.Author.Tests.{not-true, not-false}
+use Rattle.ascii.proofs.Clash.{clash}
 use Rattle.ascii.specs.Bytes.{pick, isWhite}
 use Rattle.ascii.specs.Classes.{inClass}
 use Rattle.ascii.specs.declared.Class.the-variants.{White, Word}
@@ -69,13 +70,13 @@ module _ (w : List ℕ) (a : Bool) (u : a ≡ sameBytes w (text "*")) where
         word-source e k = rw left (go (expressionOf w) h)
           where
             go : (z : Option SourceExpression) → r ≡ sourceAs z → meaning.Source e ≡ meaningAs (sourceMeaning z)
-            go = unfold sourceMeaning in (elim [ some d ↦ λ l. (let q : expressionRange d ≡ e = cc in ap meaning.Source (sym q)) | none ↦ λ l. absurd (let z : _≡_ {A = ℕ} 0 1 = cc in omega arith) ])
+            go = unfold sourceMeaning in (elim [ some d ↦ λ l. (let q : expressionRange d ≡ e = cc in ap meaning.Source (sym q)) | none ↦ λ l. clash cc ])
 
         pub word-nothing : r ≡ answer.NotAnExpression → meaning.Nothing ≡ meaningAs (meaningOf w)
         word-nothing k = rw left (go (expressionOf w) h)
           where
             go : (z : Option SourceExpression) → r ≡ sourceAs z → meaning.Nothing ≡ meaningAs (sourceMeaning z)
-            go = unfold sourceMeaning in (elim [ some d ↦ λ l. absurd (let z : _≡_ {A = ℕ} 0 1 = cc in omega arith) | none ↦ λ l. refl ])
+            go = unfold sourceMeaning in (elim [ some d ↦ λ l. clash cc | none ↦ λ l. refl ])
 
 -- whom one word admits
 unfoldable pub meaningAdmits : Meaning → Bool → Bool → Origin → Bool
@@ -136,65 +137,65 @@ module _ (x : Meaning) (r : WordMeaning) (h : r ≡ meaningAs x) where
     where
       go : (x : Meaning) → r ≡ meaningAs x → x ≡ star
       go star e = refl
-      go self e = absurd (let z : _≡_ {A = ℕ} 0 1 = cc in omega arith)
-      go src e = absurd (let z : _≡_ {A = ℕ} 0 1 = cc in omega arith)
-      go (source y) e = absurd (let z : _≡_ {A = ℕ} 0 1 = cc in omega arith)
-      go nothing e = absurd (let z : _≡_ {A = ℕ} 0 1 = cc in omega arith)
+      go self e = clash cc
+      go src e = clash cc
+      go (source y) e = clash cc
+      go nothing e = clash cc
 
   told-self : r ≡ meaning.Container → x ≡ self
   told-self k = go x h
     where
       go : (x : Meaning) → r ≡ meaningAs x → x ≡ self
-      go star e = absurd (let z : _≡_ {A = ℕ} 0 1 = cc in omega arith)
+      go star e = clash cc
       go self e = refl
-      go src e = absurd (let z : _≡_ {A = ℕ} 0 1 = cc in omega arith)
-      go (source y) e = absurd (let z : _≡_ {A = ℕ} 0 1 = cc in omega arith)
-      go nothing e = absurd (let z : _≡_ {A = ℕ} 0 1 = cc in omega arith)
+      go src e = clash cc
+      go (source y) e = clash cc
+      go nothing e = clash cc
 
   told-src : r ≡ meaning.Declared → x ≡ src
   told-src k = go x h
     where
       go : (x : Meaning) → r ≡ meaningAs x → x ≡ src
-      go star e = absurd (let z : _≡_ {A = ℕ} 0 1 = cc in omega arith)
-      go self e = absurd (let z : _≡_ {A = ℕ} 0 1 = cc in omega arith)
+      go star e = clash cc
+      go self e = clash cc
       go src e = refl
-      go (source y) e = absurd (let z : _≡_ {A = ℕ} 0 1 = cc in omega arith)
-      go nothing e = absurd (let z : _≡_ {A = ℕ} 0 1 = cc in omega arith)
+      go (source y) e = clash cc
+      go nothing e = clash cc
 
   told-nothing : r ≡ meaning.Nothing → x ≡ nothing
   told-nothing k = go x h
     where
       go : (x : Meaning) → r ≡ meaningAs x → x ≡ nothing
-      go star e = absurd (let z : _≡_ {A = ℕ} 0 1 = cc in omega arith)
-      go self e = absurd (let z : _≡_ {A = ℕ} 0 1 = cc in omega arith)
-      go src e = absurd (let z : _≡_ {A = ℕ} 0 1 = cc in omega arith)
-      go (source y) e = absurd (let z : _≡_ {A = ℕ} 0 1 = cc in omega arith)
+      go star e = clash cc
+      go self e = clash cc
+      go src e = clash cc
+      go (source y) e = clash cc
       go nothing e = refl
 
   told-source : (e : ExpressionRange) → r ≡ meaning.Source e → (y : SourceExpression) × (x ≡ source y) × (expressionRange y ≡ e)
   told-source e k = go x h
     where
       go : (x : Meaning) → r ≡ meaningAs x → (y : SourceExpression) × (x ≡ source y) × (expressionRange y ≡ e)
-      go star f = absurd (let z : _≡_ {A = ℕ} 0 1 = cc in omega arith)
-      go self f = absurd (let z : _≡_ {A = ℕ} 0 1 = cc in omega arith)
-      go src f = absurd (let z : _≡_ {A = ℕ} 0 1 = cc in omega arith)
+      go star f = clash cc
+      go self f = clash cc
+      go src f = clash cc
       go (source y) f = (y, refl, cc)
-      go nothing f = absurd (let z : _≡_ {A = ℕ} 0 1 = cc in omega arith)
+      go nothing f = clash cc
 
 -- a word that is an expression is read as it
 string-is : (x : Option SourceExpression) (y : SourceExpression) → sourceMeaning x ≡ source y → x ≡ some y
 unfolding sourceMeaning
 string-is (some z) y e = let q : z ≡ y = cc in ap some q
-string-is none y e = absurd (let z : _≡_ {A = ℕ} 0 1 = cc in omega arith)
+string-is none y e = clash cc
 
 source-read : (w : List ℕ) (y : SourceExpression) → meaningOf w ≡ source y → expressionOf w ≡ some y
 unfolding meaningOf
 source-read w y = go (sameBytes w (text "*")) (sameLowered w (text "'self'")) (sameLowered w (text "'src'"))
   where
     go : (a b c : Bool) → pick a star (pick b self (pick c src (sourceMeaning (expressionOf w)))) ≡ source y → expressionOf w ≡ some y
-    go true b c e = absurd (let z : _≡_ {A = ℕ} 0 1 = unfold pick in cc in omega arith)
-    go false true c e = absurd (let z : _≡_ {A = ℕ} 0 1 = unfold pick in cc in omega arith)
-    go false false true e = absurd (let z : _≡_ {A = ℕ} 0 1 = unfold pick in cc in omega arith)
+    go true b c e = clash (unfold pick in cc)
+    go false true c e = clash (unfold pick in cc)
+    go false false true e = clash (unfold pick in cc)
     go false false false e = string-is (expressionOf w) y (unfold pick in e)
 
 -- whether a word admits an origin, by its meaning

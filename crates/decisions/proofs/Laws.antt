@@ -10,6 +10,7 @@ use lib.Pow.{mod-pow-add}
 use lib.Dec.{ltb, eqb}
 use lib.ListN.{getD}
 use borrow.Author.Tests.{ltb-true, ltb-false}
+use Rattle.ascii.proofs.Clash.{clash}
 use Rattle.ascii.proofs.Bytes.{and-false}
 use Rattle.features.specs.Features.{Default, featureCount, defaultOf}
 use Rattle.features.specs.Features.Default.{star, self}
@@ -149,19 +150,19 @@ module _ (p : Policy) (n : ℕ) where
 decided-yes : (b : Bool) → decided b ≡ enabled → b ≡ true
 unfolding decided
 decided-yes true e = refl
-decided-yes false e = absurd (let z : _≡_ {A = ℕ} 0 1 = cc in omega arith)
+decided-yes false e = clash cc
 
 fresh-list : (l : Allowlist) (own : Origin) → allows l own fresh ≡ true → l ≡ all
 fresh-list all own e = refl
-fresh-list (listed b es) own e = absurd (let f : allows (listed b es) own fresh ≡ false = listed-fresh b es own in let z : _≡_ {A = ℕ} 0 1 = cc in omega arith)
+fresh-list (listed b es) own e = absurd (let f : allows (listed b es) own fresh ≡ false = listed-fresh b es own in clash cc)
 
 opaque-list : (l : Allowlist) (own : Origin) (n : ℕ) → sameOrigin own (opaque n) ≡ false → allows l own (opaque n) ≡ true → l ≡ all
 opaque-list all own n h e = refl
-opaque-list (listed b es) own n h e = absurd (let f : allows (listed b es) own (opaque n) ≡ false = listed-opaque b es own n ∙ (rw h (and-false b)) in let z : _≡_ {A = ℕ} 0 1 = cc in omega arith)
+opaque-list (listed b es) own n h e = absurd (let f : allows (listed b es) own (opaque n) ≡ false = listed-opaque b es own n ∙ (rw h (and-false b)) in clash cc)
 
 unless-then : (d e : Decision) → unlessDisabled d e ≡ enabled → e ≡ enabled
 unfolding unlessDisabled
-unless-then disabled e k = absurd (let z : _≡_ {A = ℕ} 0 1 = cc in omega arith)
+unless-then disabled e k = clash cc
 unless-then enabled e k = k
 
 pub value-fresh : (i : Decision) (l : Allowlist) (own : Origin) → value i (some l) own fresh ≡ enabled → l ≡ all
@@ -193,8 +194,8 @@ inherited-opaque c d l default container n h e =
 default-star : (default : Option Default) → byDefault default false ≡ enabled → default ≡ some star
 unfolding byDefault decided
 default-star (some star) e = refl
-default-star (some self) e = absurd (let z : _≡_ {A = ℕ} 0 1 = cc in omega arith)
-default-star none e = absurd (let z : _≡_ {A = ℕ} 0 1 = cc in omega arith)
+default-star (some self) e = clash cc
+default-star none e = clash cc
 
 pub inherited-default : (c d : Decision) (default : Option Default) (container declared arriving : Origin) → sameOrigin container arriving ≡ false → inheritedFramed c d none default container declared arriving ≡ enabled → default ≡ some star
 unfolding inheritedFramed inheritedBy byList attributeAdmits
@@ -211,7 +212,7 @@ stays-on s t = record { keeps = λ k. t .keeps (s .keeps k) }
 
 unless-keeps : (c d e f : Decision) → (c ≡ enabled → d ≡ enabled) → (e ≡ enabled → f ≡ enabled) → unlessDisabled c e ≡ enabled → unlessDisabled d f ≡ enabled
 unfolding unlessDisabled
-unless-keeps disabled d e f h g k = absurd (let z : _≡_ {A = ℕ} 0 1 = cc in omega arith)
+unless-keeps disabled d e f h g k = clash cc
 unless-keeps enabled d e f h g k = rw (h refl) (g k)
 
 unless-stays : {c d e f : Decision} → Stays c d → Stays e f → Stays (unlessDisabled c e) (unlessDisabled d f)
@@ -225,7 +226,7 @@ data Follows : Option Bool → Option Bool → Type 0 where
 decided-keeps : (a b : Bool) → (a ≡ true → b ≡ true) → decided a ≡ enabled → decided b ≡ enabled
 unfolding decided
 decided-keeps true b h k = rw (h refl)
-decided-keeps false b h k = absurd (let z : _≡_ {A = ℕ} 0 1 = cc in omega arith)
+decided-keeps false b h k = clash cc
 
 list-stays : {a b : Option Bool} (d : Decision) → Follows a b → Stays (byList a d) (byList b d)
 unfolding byList

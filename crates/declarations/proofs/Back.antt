@@ -4,7 +4,7 @@ use Prim.Native.Nat.{ℕ}
 use mathlib.Core.List.{List, [], _∷_, map}
 use mathlib.Core.Bool.{Bool, true, false, not, _||_}
 use mathlib.Core.Option.{Option, some, none}
-use native.Mathlib.Omega.{arith}
+use Rattle.ascii.proofs.Clash.{clash}
 use Rattle.ascii.specs.Bytes.{pick}
 use Rattle.ascii.specs.Literals.{text}
 use Rattle.ascii.specs.Texts.{sameBy, sameBytes}
@@ -79,15 +79,15 @@ unfolding meaningOf
 source-good (token t) y e = absurd (no-source (sameBytes t (text "*")) (sameBytes t (text "self")) (unfold tokenMeaning in e))
   where
     no-source : (a b : Bool) → pick a star (pick b self nothing) ≡ source y → ⊥
-    no-source true b f = let z : _≡_ {A = ℕ} 0 1 = unfold pick in cc in omega arith
-    no-source false true f = let z : _≡_ {A = ℕ} 0 1 = unfold pick in cc in omega arith
-    no-source false false f = let z : _≡_ {A = ℕ} 0 1 = unfold pick in cc in omega arith
+    no-source true b f = clash (unfold pick in cc)
+    no-source false true f = clash (unfold pick in cc)
+    no-source false false f = clash (unfold pick in cc)
 source-good (string t) y e = go (expressionOf t) refl e
   where
     go : (o : Option SourceExpression) → expressionOf t ≡ o → sourceMeaning o ≡ source y → GoodExpression y
     go (some d) f h = let q : d ≡ y = unfold sourceMeaning in cc in expression-good t y (f ∙ ap some q)
-    go none f h = absurd (let z : _≡_ {A = ℕ} 0 1 = unfold sourceMeaning in cc in omega arith)
-source-good other y e = absurd (let z : _≡_ {A = ℕ} 0 1 = cc in omega arith)
+    go none f h = clash (unfold sourceMeaning in cc)
+source-good other y e = clash cc
 
 sources-good : (xs : List Item) → All GoodExpression (sourcesOf xs)
 unfolding sourcesOf
@@ -105,7 +105,7 @@ unfolding allowlistOf allowlist
 listed-good xs b es e = go (hasStar xs) e
   where
     go : (t : Bool) → pick t all (listed (hasSelf xs) (sourcesOf xs)) ≡ listed b es → All GoodExpression es
-    go true f = absurd (let z : _≡_ {A = ℕ} 0 1 = unfold pick in cc in omega arith)
+    go true f = clash (unfold pick in cc)
     go false f = let q : sourcesOf xs ≡ es = unfold pick in cc in rw q at (sources-good xs)
 
 lone-good : (x : Item) (m : Meaning) (b : Bool) (es : List SourceExpression) → loneDeclares m (allowlistOf (x ∷ [])) ≡ some (listed b es) → All GoodExpression es
@@ -113,14 +113,14 @@ unfolding loneDeclares
 lone-good x star b es e = listed-good (x ∷ []) b es cc
 lone-good x self b es e = listed-good (x ∷ []) b es cc
 lone-good x (source y) b es e = listed-good (x ∷ []) b es cc
-lone-good x nothing b es e = absurd (let z : _≡_ {A = ℕ} 0 1 = cc in omega arith)
+lone-good x nothing b es e = clash cc
 
 last-good : (o : Option (Option Value)) (b : Bool) (es : List SourceExpression) → lastDeclares o ≡ some (listed b es) → All GoodExpression es
 unfolding lastDeclares valueDeclares
 last-good (some (some (one x))) b es e = lone-good x (meaningOf x) b es e
 last-good (some (some (many xs))) b es e = listed-good xs b es cc
-last-good (some none) b es e = absurd (let z : _≡_ {A = ℕ} 0 1 = cc in omega arith)
-last-good none b es e = absurd (let z : _≡_ {A = ℕ} 0 1 = cc in omega arith)
+last-good (some none) b es e = clash cc
+last-good none b es e = clash cc
 
 pub declares-good : (s : List ℕ) (n : ℕ) (b : Bool) (es : List SourceExpression) → declares s n ≡ some (listed b es) → All GoodExpression es
 unfolding declares

@@ -7,6 +7,7 @@ use mathlib.Core.Option.{Option, some, none}
 use native.Mathlib.Omega.{arith}
 use native.Mathlib.Nat.{add-zero, add-suc, suc-add, zero-add}
 use lib.ListN.{getD}
+use Rattle.ascii.proofs.Clash.{clash}
 use Rattle.ascii.specs.Bytes.{pick}
 use Rattle.ascii.proofs.Bytes.{or-false, and-false}
 use Rattle.origins.specs.Origins.{Origin}
@@ -148,7 +149,7 @@ unfolding isMalformed declares
 malformed-declares s n e = go (members s) e
   where
     go : (d : Option (List Plain)) → not (isSome d) ≡ true → lastDeclares (lastValueIn (nameOf n) d) ≡ none
-    go = unfold isSome lastDeclares in (elim [ some ms ↦ λ f. absurd (let z : _≡_ {A = ℕ} 0 1 = cc in omega arith) | none ↦ λ f. rw (last-of-none (nameOf n)) ])
+    go = unfold isSome lastDeclares in (elim [ some ms ↦ λ f. clash cc | none ↦ λ f. rw (last-of-none (nameOf n)) ])
 
 -- what one item admits, and a list by its items; `mine`: the origin is the document's own
 itemAdmits : Meaning → Bool → Origin → Bool

@@ -4,7 +4,7 @@ use Prim.Native.Nat.{ℕ}
 use mathlib.Core.List.{List, [], _∷_}
 use mathlib.Core.Bool.{Bool, true, false, _||_}
 use mathlib.Core.Option.{Option, some, none}
-use native.Mathlib.Omega.{arith}
+use Rattle.ascii.proofs.Clash.{clash}
 use Rattle.ascii.proofs.Bytes.{or-false, or-true}
 use Rattle.ascii.specs.Bytes.{pick}
 use Rattle.ascii.specs.Literals.{text}
@@ -52,11 +52,11 @@ module _ (t : List ℕ) (a : Bool) (u : a ≡ sameBytes t (text "*")) where
 pub string-source : (x : Option SourceExpression) (r : Source) (e : ExpressionRange) → r ≡ sourceAs x → r ≡ answer.Expression e → meaning.Source e ≡ meaningAs (sourceMeaning x)
 unfolding sourceMeaning
 string-source (some y) r e h k = let q : expressionRange y ≡ e = cc in ap meaning.Source (sym q)
-string-source none r e h k = absurd (let z : _≡_ {A = ℕ} 0 1 = cc in omega arith)
+string-source none r e h k = clash cc
 
 pub string-nothing : (x : Option SourceExpression) (r : Source) → r ≡ sourceAs x → r ≡ answer.NotAnExpression → meaning.Nothing ≡ meaningAs (sourceMeaning x)
 unfolding sourceMeaning
-string-nothing (some y) r h k = absurd (let z : _≡_ {A = ℕ} 0 1 = cc in omega arith)
+string-nothing (some y) r h k = clash cc
 string-nothing none r h k = refl
 
 -- an item by its kind
@@ -80,36 +80,36 @@ module _ (x : Meaning) (r : ItemMeaning) (h : r ≡ meaningAs x) where
     where
       go : (x : Meaning) → r ≡ meaningAs x → x ≡ star
       go star e = refl
-      go self e = absurd (let z : _≡_ {A = ℕ} 0 1 = cc in omega arith)
-      go (source y) e = absurd (let z : _≡_ {A = ℕ} 0 1 = cc in omega arith)
-      go nothing e = absurd (let z : _≡_ {A = ℕ} 0 1 = cc in omega arith)
+      go self e = clash cc
+      go (source y) e = clash cc
+      go nothing e = clash cc
 
   told-self : r ≡ meaning.Own → x ≡ self
   told-self k = go x h
     where
       go : (x : Meaning) → r ≡ meaningAs x → x ≡ self
-      go star e = absurd (let z : _≡_ {A = ℕ} 0 1 = cc in omega arith)
+      go star e = clash cc
       go self e = refl
-      go (source y) e = absurd (let z : _≡_ {A = ℕ} 0 1 = cc in omega arith)
-      go nothing e = absurd (let z : _≡_ {A = ℕ} 0 1 = cc in omega arith)
+      go (source y) e = clash cc
+      go nothing e = clash cc
 
   told-nothing : r ≡ meaning.Nothing → x ≡ nothing
   told-nothing k = go x h
     where
       go : (x : Meaning) → r ≡ meaningAs x → x ≡ nothing
-      go star e = absurd (let z : _≡_ {A = ℕ} 0 1 = cc in omega arith)
-      go self e = absurd (let z : _≡_ {A = ℕ} 0 1 = cc in omega arith)
-      go (source y) e = absurd (let z : _≡_ {A = ℕ} 0 1 = cc in omega arith)
+      go star e = clash cc
+      go self e = clash cc
+      go (source y) e = clash cc
       go nothing e = refl
 
   told-source : (e : ExpressionRange) → r ≡ meaning.Source e → (y : SourceExpression) × (x ≡ source y) × (expressionRange y ≡ e)
   told-source e k = go x h
     where
       go : (x : Meaning) → r ≡ meaningAs x → (y : SourceExpression) × (x ≡ source y) × (expressionRange y ≡ e)
-      go star f = absurd (let z : _≡_ {A = ℕ} 0 1 = cc in omega arith)
-      go self f = absurd (let z : _≡_ {A = ℕ} 0 1 = cc in omega arith)
+      go star f = clash cc
+      go self f = clash cc
       go (source y) f = (y, refl, cc)
-      go nothing f = absurd (let z : _≡_ {A = ℕ} 0 1 = cc in omega arith)
+      go nothing f = clash cc
 
 -- an item that is an expression is a string that is read as it
 token-no-source : (t : List ℕ) (y : SourceExpression) → tokenMeaning t ≡ source y → ⊥
@@ -117,14 +117,14 @@ unfolding tokenMeaning
 token-no-source t y = go (sameBytes t (text "*")) (sameBytes t (text "self"))
   where
     go : (a b : Bool) → pick a star (pick b self nothing) ≡ source y → ⊥
-    go true b e = let z : _≡_ {A = ℕ} 0 1 = unfold pick in cc in omega arith
-    go false true e = let z : _≡_ {A = ℕ} 0 1 = unfold pick in cc in omega arith
-    go false false e = let z : _≡_ {A = ℕ} 0 1 = unfold pick in cc in omega arith
+    go true b e = clash (unfold pick in cc)
+    go false true e = clash (unfold pick in cc)
+    go false false e = clash (unfold pick in cc)
 
 string-is : (x : Option SourceExpression) (y : SourceExpression) → sourceMeaning x ≡ source y → x ≡ some y
 unfolding sourceMeaning
 string-is (some z) y e = let q : z ≡ y = cc in ap some q
-string-is none y e = absurd (let z : _≡_ {A = ℕ} 0 1 = cc in omega arith)
+string-is none y e = clash cc
 
 kind-source : (s : List ℕ) (p : ItemRange) (y : SourceExpression) (k : ItemKind) → p .kind ≡ k → meaningOf (itemAs s p) ≡ source y → expressionOf (partOf s (p .from) (p .to)) ≡ some y
 unfolding meaningOf
@@ -132,7 +132,7 @@ kind-source s p y kind.Token k e = absurd (token-no-source (partOf s (p .from) (
 kind-source s p y kind.String k e = string-is (expressionOf (partOf s (p .from) (p .to))) y (rw (as-string s p k) at e)
 kind-source s p y kind.Other k e =
     let f : nothing ≡ source y = rw (as-other s p k) at e in
-    absurd (let z : _≡_ {A = ℕ} 0 1 = cc in omega arith)
+    clash cc
 
 -- whether an item admits an origin, by its meaning
 module _ (s : List ℕ) (p : ItemRange) (o : Origin) (r : ItemMeaning) (h : r ≡ meaningAs (meaningOf (itemAs s p))) where

@@ -5,6 +5,7 @@ use mathlib.Core.List.{List, [], _∷_, _++_}
 use mathlib.Core.Option.{Option, some, none}
 use native.Mathlib.Omega.{arith}
 use lib.ListN.{length, drop, length-drop}
+use Rattle.ascii.proofs.Clash.{clash}
 use Rattle.ascii.specs.Reading.{Parsed, Step, adding, onStep, turns, turnsOf}
 use Rattle.ascii.specs.Reading.Parsed.{parsed, malformed}
 use Rattle.ascii.specs.Reading.Step.{more, done, fail}
@@ -45,19 +46,19 @@ module _ {A B : Type 0} (f : List ℕ → Step A) (g : List ℕ → List A) (add
   turn-go : (k : B → A → B) (b : B) (n : ℕ) (st : Step A) (xs : List A) (m : List ℕ) → Adds st xs → goes m ≡ wentOf st → foldParsed k b (onStep st (λ z. turns f n z)) ≡ foldParsed k (into k b xs) (turns f n m)
   unfolding wentOf onStep
   turn-go k b n (more a l) xs m d e = let w : m ≡ l = cc in rw (w, ← d) (fold-adding k b a (turns f n l))
-  turn-go k b n (done a l) xs m d e = absurd (let z : _≡_ {A = ℕ} 0 1 = cc in omega arith)
-  turn-go k b n fail xs m d e = absurd (let z : _≡_ {A = ℕ} 0 1 = cc in omega arith)
+  turn-go k b n (done a l) xs m d e = clash cc
+  turn-go k b n fail xs m d e = clash cc
 
   turn-done : (k : B → A → B) (b : B) (n : ℕ) (st : Step A) (xs : List A) (m : List ℕ) → Adds st xs → ends m ≡ wentOf st → foldParsed k b (onStep st (λ z. turns f n z)) ≡ some (into k b xs)
   unfolding wentOf onStep foldParsed
-  turn-done k b n (more a l) xs m d e = absurd (let z : _≡_ {A = ℕ} 0 1 = cc in omega arith)
+  turn-done k b n (more a l) xs m d e = clash cc
   turn-done k b n (done a l) xs m d e = rw (← d)
-  turn-done k b n fail xs m d e = absurd (let z : _≡_ {A = ℕ} 0 1 = cc in omega arith)
+  turn-done k b n fail xs m d e = clash cc
 
   turn-fail : (k : B → A → B) (b : B) (n : ℕ) (st : Step A) → fails ≡ wentOf st → foldParsed k b (onStep st (λ z. turns f n z)) ≡ none
   unfolding wentOf onStep foldParsed
-  turn-fail k b n (more a l) e = absurd (let z : _≡_ {A = ℕ} 0 1 = cc in omega arith)
-  turn-fail k b n (done a l) e = absurd (let z : _≡_ {A = ℕ} 0 1 = cc in omega arith)
+  turn-fail k b n (more a l) e = clash cc
+  turn-fail k b n (done a l) e = clash cc
   turn-fail k b n fail e = refl
 
   module _ (k : B → A → B) (s : List ℕ) (i : ℕ) (R : Option B) (t : Turn) (b : B) (is : wentAt s t ≡ wentOf (f (drop i s))) where

@@ -4,6 +4,7 @@ use mathlib.Core.Path.{_≡_, refl}
 use mathlib.Core.List.{List, [], _∷_}
 use mathlib.Core.Option.{some, none}
 use native.Mathlib.Omega.{arith}
+use Rattle.ascii.proofs.Clash.{clash}
 use Rattle.ascii.specs.Bytes.{pick}
 use Rattle.ascii.specs.Literals.{text}
 use Rattle.ascii.specs.Reading.{headOf, headIs, isEmpty, next, skip, letLen, runOf, past, after, mapped, going, adding, onStep, turns}
@@ -132,4 +133,4 @@ key-renamed o = let e : _≡_ {A = List (List ℕ)} ((text "a") ∷ []) ((text "
 -- a header that is not a dictionary: `a=(b)` and `a=(b,c)`
 not-read : OneItemMore (text "a=(b)") (text "a=(b,c)") → ⊥
 unfolding pick headOf headIs isEmpty next skip letLen runOf past after mapped going adding onStep turns keyOf tokenOf booleanOf bytesOf fractionOf unsignedOf numberOf stringTurn stringOf bareOf paramOf paramTurn paramsOf itemOf innerTurn innerOf closedOf listOf loneOf bareKey valueOf assignedOf memberOf partedOf dictTurn readAll dataOf plains plainly
-not-read o = let e : none ≡ some _ = o .second in let z : _≡_ {A = ℕ} 0 1 = cc in omega arith
+not-read o = let e : none ≡ some _ = o .second in clash cc

@@ -7,6 +7,7 @@ use mathlib.Core.Bool.{Bool, true, false}
 use native.Mathlib.Omega.{arith}
 use lib.ListN.{length, drop, length-drop, length-append}
 use lib.Dec.{eqb}
+use Rattle.ascii.proofs.Clash.{clash}
 use Rattle.ascii.specs.Bytes.{pick}
 use Rattle.ascii.specs.Texts.{partOf, sameBytes}
 use Rattle.ascii.specs.Reading.{Parsed, headOf, isEmpty, past, skip, next, after, mapped, going, turnsOf}
@@ -184,14 +185,14 @@ pub ruleset looks = (look-empty, look-start)
 module _ (s key : List ℕ) (r : MemberFound) (is : r ≡ lastFound s key) where
   placed-not : (p : Placed) (v : Value) → valueAt s p v ≡ found.NotADictionary → ⊥
   unfolding valueAt
-  placed-not p (one x) u = let z : _≡_ {A = ℕ} 0 1 = cc in omega arith
-  placed-not p (many xs) u = let z : _≡_ {A = ℕ} 0 1 = cc in omega arith
+  placed-not p (one x) u = clash cc
+  placed-not p (many xs) u = clash cc
 
   pub not-dictionary : r ≡ found.NotADictionary → false ≡ isSome (dictionary s)
   not-dictionary at = go (dictionary s) (sym is ∙ at)
     where
       deep : (o : Option Member) → answerOf s (some o) ≡ found.NotADictionary → ⊥
-      deep = unfold answerOf placedAt in (elim [ some m ↦ λ u. placed-not (m .placed) (m .placed .value) u | none ↦ λ u. (let z : _≡_ {A = ℕ} 0 1 = cc in omega arith) ])
+      deep = unfold answerOf placedAt in (elim [ some m ↦ λ u. placed-not (m .placed) (m .placed .value) u | none ↦ λ u. (clash cc) ])
 
       go : (d : Option (List Member)) → answerOf s (lastIn key d) ≡ found.NotADictionary → false ≡ isSome d
       go = unfold lastIn isSome in (elim [ some ms ↦ λ u. absurd (deep (into (latest key) none ms) u) | none ↦ λ u. refl ])
@@ -203,12 +204,12 @@ module _ (s key : List ℕ) (r : MemberFound) (is : r ≡ lastFound s key) where
       go = unfold lastIn isSome answerOf in (elim [ some ms ↦ λ u. refl | none ↦ λ u. absurd (n (sym u)) ])
 
   pub dictionary-absent : r ≡ found.Absent → true ≡ isSome (dictionary s)
-  dictionary-absent at = is-dictionary (λ u. let z : _≡_ {A = ℕ} 0 1 = cc in omega arith)
+  dictionary-absent at = is-dictionary (λ u. clash cc)
 
   pub dictionary-item : (m : MemberItem) → r ≡ found.Item m → true ≡ isSome (dictionary s)
-  dictionary-item m at = is-dictionary (λ u. let z : _≡_ {A = ℕ} 0 1 = cc in omega arith)
+  dictionary-item m at = is-dictionary (λ u. clash cc)
 
   pub dictionary-list : (m : MemberList) → r ≡ found.List m → true ≡ isSome (dictionary s)
-  dictionary-list m at = is-dictionary (λ u. let z : _≡_ {A = ℕ} 0 1 = cc in omega arith)
+  dictionary-list m at = is-dictionary (λ u. clash cc)
 
 pub ruleset whether = (not-dictionary, dictionary-absent, dictionary-item, dictionary-list)

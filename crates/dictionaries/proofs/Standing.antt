@@ -7,6 +7,7 @@ use mathlib.Core.Option.{Option, some, none}
 use native.Mathlib.Omega.{arith}
 use lib.ListN.{length, drop}
 use lib.Dec.{eqb}
+use Rattle.ascii.proofs.Clash.{clash}
 use Rattle.ascii.specs.Bytes.{pick}
 use Rattle.ascii.specs.Texts.{sameBytes}
 use Rattle.ascii.specs.Reading.{Parsed, Step, headOf, isEmpty, next, skip, past, after, mapped, going, adding, onStep, turns}
@@ -63,16 +64,16 @@ unfolding innerTurn skip next
 inner-shrinks l a xs e = go (eqb (headOf (past isSpace l)) 41) (itemOf (past isSpace l)) refl e
   where
     parted : (x : Item) (n : List ℕ) (t : Bool) → pick t (more (x ∷ []) n) fail ≡ more xs a → n ≡ a
-    parted = unfold pick in (λ x n. elim [ true ↦ λ u. cc | false ↦ λ u. absurd (let z : _≡_ {A = ℕ} 0 1 = cc in omega arith) ])
+    parted = unfold pick in (λ x n. elim [ true ↦ λ u. cc | false ↦ λ u. clash cc ])
 
     go : (b : Bool) (g : Parsed Item) → itemOf (past isSpace l) ≡ g → pick b (done [] (drop 1 (past isSpace l))) (going g (λ x n. pick (eqb (headOf n) 32 || eqb (headOf n) 41) (more (x ∷ []) n) fail)) ≡ more xs a → length a < length l
     go = unfold pick going in (elim [
-      | true ↦ λ g h u. absurd (let z : _≡_ {A = ℕ} 0 1 = cc in omega arith)
+      | true ↦ λ g h u. clash cc
       | false ↦ elim [
         | parsed x n ↦ λ h u.
             let w : n ≡ a = parted x n (eqb (headOf n) 32 || eqb (headOf n) 41) u in
             omega (arith, ap length w, item-shrinks (past isSpace l) .shorter x n h, suffix-length (suffix-past isSpace l))
-        | malformed ↦ λ h u. absurd (let z : _≡_ {A = ℕ} 0 1 = cc in omega arith)
+        | malformed ↦ λ h u. clash cc
       ]
     ])
 
@@ -89,14 +90,14 @@ walk-enough (suc n) (suc k) l h g = go (innerTurn l) refl (λ m u. walk-enough n
 -- what the turns of a list collect is what is gone through
 pub walk-turns : (n : ℕ) (l : List ℕ) (xs : List Item) (m : List ℕ) → turns innerTurn n l ≡ parsed xs m → walk n l ≡ xs
 unfolding turns walk
-walk-turns zero l xs m e = absurd (let z : _≡_ {A = ℕ} 0 1 = cc in omega arith)
+walk-turns zero l xs m e = clash cc
 walk-turns (suc n) l xs m e = go (innerTurn l) e (λ k ys u. walk-turns n k ys m u)
   where
     add : (a : List Item) (k : List ℕ) (g : Parsed (List Item)) → adding a g ≡ parsed xs m → ((ys : List Item) → g ≡ parsed ys m → walk n k ≡ ys) → a ++ walk n k ≡ xs
-    add = unfold adding in (λ a k. elim [ parsed b o ↦ λ u r. let w : a ++ b ≡ xs = cc in let v : o ≡ m = cc in ap (λ (z : List Item). a ++ z) (r b (ap (λ (z : List ℕ). parsed b z) v)) ∙ w | malformed ↦ λ u r. absurd (let z : _≡_ {A = ℕ} 0 1 = cc in omega arith) ])
+    add = unfold adding in (λ a k. elim [ parsed b o ↦ λ u r. let w : a ++ b ≡ xs = cc in let v : o ≡ m = cc in ap (λ (z : List Item). a ++ z) (r b (ap (λ (z : List ℕ). parsed b z) v)) ∙ w | malformed ↦ λ u r. clash cc ])
 
     go : (st : Step Item) → onStep st (λ k. turns innerTurn n k) ≡ parsed xs m → ((k : List ℕ) (ys : List Item) → turns innerTurn n k ≡ parsed ys m → walk n k ≡ ys) → onward st (λ k. walk n k) ≡ xs
-    go = unfold onStep onward in (elim [ more a k ↦ λ u r. add a k (turns innerTurn n k) u (r k) | done a k ↦ λ u r. cc | fail ↦ λ u r. absurd (let z : _≡_ {A = ℕ} 0 1 = cc in omega arith) ])
+    go = unfold onStep onward in (elim [ more a k ↦ λ u r. add a k (turns innerTurn n k) u (r k) | done a k ↦ λ u r. cc | fail ↦ λ u r. clash cc ])
 
 -- the turn of a list at a cursor, by the answer there
 module _ (s : List ℕ) (c : ℕ) where
@@ -123,17 +124,17 @@ module _ (s : List ℕ) (c : ℕ) where
   cursor-step f e = go (eqb (headOf here) 41) (itemOf here) refl e
     where
       parted : (t : Bool) (x : Item) (n : List ℕ) → itemOf here ≡ parsed x n → pick t (list.Item (record { range = itemRange (length s - length here) x; next = length s - length n })) list.End ≡ list.Item f → pick t (more (x ∷ []) n) fail ≡ more (itemAs s (f .range) ∷ []) (drop (f .next) s)
-      parted = unfold pick in (elim [ true ↦ λ x n h u. turn-found x n f h u | false ↦ λ x n h u. absurd (let z : _≡_ {A = ℕ} 0 1 = cc in omega arith) ])
+      parted = unfold pick in (elim [ true ↦ λ x n h u. turn-found x n f h u | false ↦ λ x n h u. clash cc ])
 
       go : (b : Bool) (g : Parsed Item) → itemOf here ≡ g → pick b list.End (pointedAt s here g) ≡ list.Item f → pick b (done [] (drop 1 here)) (going g (λ x n. pick (eqb (headOf n) 32 || eqb (headOf n) 41) (more (x ∷ []) n) fail)) ≡ more (itemAs s (f .range) ∷ []) (drop (f .next) s)
-      go = unfold pick going pointedAt in (elim [ true ↦ λ g h u. absurd (let z : _≡_ {A = ℕ} 0 1 = cc in omega arith) | false ↦ elim [ parsed x n ↦ λ h u. parted (eqb (headOf n) 32 || eqb (headOf n) 41) x n h u | malformed ↦ λ h u. absurd (let z : _≡_ {A = ℕ} 0 1 = cc in omega arith) ] ])
+      go = unfold pick going pointedAt in (elim [ true ↦ λ g h u. clash cc | false ↦ elim [ parsed x n ↦ λ h u. parted (eqb (headOf n) 32 || eqb (headOf n) 41) x n h u | malformed ↦ λ h u. clash cc ] ])
 
   pub cursor-stop : (r : List ℕ → List Item) → cursorAt s c ≡ list.End → onward (innerTurn (drop c s)) r ≡ []
   unfolding cursorAt innerTurn skip next here
   cursor-stop r e = go (eqb (headOf here) 41) (itemOf here) e
     where
       parted : (t : Bool) (x : Item) (n : List ℕ) (fd : ItemFound) → pick t (list.Item fd) list.End ≡ list.End → onward (pick t (more (x ∷ []) n) fail) r ≡ []
-      parted = unfold pick onward in (elim [ true ↦ λ x n fd u. absurd (let z : _≡_ {A = ℕ} 0 1 = cc in omega arith) | false ↦ λ x n fd u. refl ])
+      parted = unfold pick onward in (elim [ true ↦ λ x n fd u. clash cc | false ↦ λ x n fd u. refl ])
 
       go : (b : Bool) (g : Parsed Item) → pick b list.End (pointedAt s here g) ≡ list.End → onward (pick b (done [] (drop 1 here)) (going g (λ x n. pick (eqb (headOf n) 32 || eqb (headOf n) 41) (more (x ∷ []) n) fail))) r ≡ []
       go = unfold pick going pointedAt onward in (elim [ true ↦ λ g u. refl | false ↦ elim [ parsed x n ↦ λ u. parted (eqb (headOf n) 32 || eqb (headOf n) 41) x n (record { range = itemRange (length s - length here) x; next = length s - length n }) u | malformed ↦ λ u. refl ] ])
@@ -163,7 +164,7 @@ record Good (s : List ℕ) (g : Parsed Placed) : Type 0 where
 
 module _ (s : List ℕ) where
   good-malformed : Good s malformed
-  good-malformed = record { good = λ p n e. absurd (let z : _≡_ {A = ℕ} 0 1 = cc in omega arith) }
+  good-malformed = record { good = λ p n e. clash cc }
 
   good-pick : (b : Bool) (x y : Parsed Placed) → Good s x → Good s y → Good s (pick b x y)
   unfolding pick
@@ -209,10 +210,10 @@ module _ (s : List ℕ) where
   member-says l h m n e = go (keyOf l) refl e
     where
       named : (k : List ℕ) (g : Parsed Placed) → Good s g → mapped (λ v. record { key = k; placed = v }) g ≡ parsed m n → Says s (m .placed)
-      named = unfold mapped in (λ k. elim [ parsed p o ↦ λ b u. let w : p ≡ m .placed = cc in rw (← w) (b .good p o refl) | malformed ↦ λ b u. absurd (let z : _≡_ {A = ℕ} 0 1 = cc in omega arith) ])
+      named = unfold mapped in (λ k. elim [ parsed p o ↦ λ b u. let w : p ≡ m .placed = cc in rw (← w) (b .good p o refl) | malformed ↦ λ b u. clash cc ])
 
       go : (g : Parsed (List ℕ)) → keyOf l ≡ g → after g (λ k o. mapped (λ v. record { key = k; placed = v }) (assignedOf o)) ≡ parsed m n → Says s (m .placed)
-      go = unfold after in (elim [ parsed k o ↦ λ a u. named k (assignedOf o) (assigned-good o (suffix-trans h (key-ends l .ends k o a))) u | malformed ↦ λ a u. absurd (let z : _≡_ {A = ℕ} 0 1 = cc in omega arith) ])
+      go = unfold after in (elim [ parsed k o ↦ λ a u. named k (assignedOf o) (assigned-good o (suffix-trans h (key-ends l .ends k o a))) u | malformed ↦ λ a u. clash cc ])
 
 -- from where an answer says that a member's parameters start, they are read up to where it says that they end
 abbrev pub ParamsStand : List ℕ → MemberFound → Type 0

@@ -8,6 +8,7 @@ use lib.ListN.{length, drop, length-drop}
 use lib.Seq.{drop-drop}
 use lib.Dec.{eqb}
 use borrow.Author.Tests.{eq-eqb, ne-eqb}
+use Rattle.ascii.proofs.Clash.{clash}
 use Rattle.ascii.specs.Bytes.{pick}
 use Rattle.ascii.specs.Reading.{Parsed, headOf, isEmpty, past, skip, next, after}
 use Rattle.ascii.specs.Reading.Parsed.{parsed, malformed}
@@ -42,11 +43,11 @@ left-parsed s m q x v = cc
 
 pub left-not : (A : Type 0) (s : List ℕ) (q : ℕ) → leftAt s (read.At q) ≡ restOf {A = A} malformed → ⊥
 unfolding restOf leftAt
-left-not A s q v = let z : _≡_ {A = ℕ} 0 1 = cc in omega arith
+left-not A s q v = clash cc
 
 pub none-parsed : {A : Type 0} (s m : List ℕ) (x : A) → leftAt s read.Malformed ≡ restOf (parsed x m) → ⊥
 unfolding restOf leftAt
-none-parsed s m x v = let z : _≡_ {A = ℕ} 0 1 = cc in omega arith
+none-parsed s m x v = clash cc
 
 place-of : (s : List ℕ) (i : ℕ) → i ≤ length s → length s - length (drop i s) ≡ i
 place-of s i h = omega (arith, length-drop i s)

@@ -3,7 +3,7 @@ use Prim.Native.Nat.{ℕ}
 use mathlib.Core.Path.{_≡_, refl}
 use mathlib.Core.List.{List, [], _∷_}
 use mathlib.Core.Option.{some, none}
-use native.Mathlib.Omega.{arith}
+use Rattle.ascii.proofs.Clash.{clash}
 use Rattle.ascii.specs.Bytes.{pick}
 use Rattle.ascii.specs.Literals.{text}
 use Rattle.ascii.specs.Texts.{every}
@@ -82,19 +82,19 @@ small-back =
 -- what cannot be written: no key and no token is empty, a key has no upper-case letter, a string's text no quote, and no other item is written
 no-empty-key : GoodKey [] → ⊥
 unfolding headIs headOf
-no-empty-key g = let z : _≡_ {A = ℕ} 0 1 = cc (g .starts) in omega arith
+no-empty-key g = clash (cc (g .starts))
 
 no-upper-key : GoodKey (text "usB") → ⊥
 unfolding every
-no-upper-key g = let z : _≡_ {A = ℕ} 0 1 = cc (g .bytes) in omega arith
+no-upper-key g = clash (cc (g .bytes))
 
 no-empty-token : GoodItem (token []) → ⊥
 unfolding headIs headOf
-no-empty-token g = let z : _≡_ {A = ℕ} 0 1 = cc (g .starts) in omega arith
+no-empty-token g = clash (cc (g .starts))
 
 no-quote-inside : GoodItem (string (text "a\"b")) → ⊥
 unfolding every
-no-quote-inside g = let z : _≡_ {A = ℕ} 0 1 = cc g in omega arith
+no-quote-inside g = clash (cc g)
 
 no-other : GoodItem other → ⊥
 no-other g = g

@@ -9,6 +9,7 @@ use native.Mathlib.Omega.{arith}
 use lib.ListN.{length, getD, List·getD-eq-default}
 use lib.Dec.{leb, ltb}
 use borrow.Author.Tests.{leb-true, ltb-true, ltb-false}
+use Rattle.ascii.proofs.Clash.{clash}
 use Rattle.ascii.specs.Bytes.{pick, isKeyStart, isKeyByte}
 use Rattle.ascii.specs.Reading.{headOf, headIs, runOf, past}
 use Rattle.ascii.specs.Texts.{every, sameBytes}
@@ -63,7 +64,7 @@ found-below word n e = let s : Stands names 0 word n = stands names 0 n word e i
 
 -- an unknown word is no feature's name
 pub unknown : (word : List ℕ) (n : ℕ) → featureOf word ≡ none → n < featureCount → word ≡ nameOf n → ⊥
-unknown word n e h w = let a : featureOf (nameOf n) ≡ some n = found n h in let z : _≡_ {A = ℕ} 0 1 = cc in omega arith
+unknown word n e h w = let a : featureOf (nameOf n) ≡ some n = found n h in clash cc
 
 -- a number over 16 has no name and no default list
 pub name-none : (n : ℕ) → featureCount ≤ n → nameOf n ≡ []

@@ -9,6 +9,7 @@ use native.Mathlib.Omega.{arith}
 use lib.ListN.{length, getD, getElem?, take, replicate, length-append, length-replicate}
 use lib.Seq.{take-at}
 use borrow.Author.Tests.{eq-eqb}
+use Rattle.ascii.proofs.Clash.{clash}
 use Rattle.ascii.specs.Bytes.{pick}
 use Rattle.ascii.specs.Texts.{every, sameBytes}
 use Rattle.ascii.specs.Reading.{headOf, runOf, past}
@@ -44,7 +45,7 @@ found-at (x ∷ xs) k (suc i) e h =
     (found-at xs (suc k) i (and-right (every (before x) xs) (ascending xs) e) (le-of-suc-le-suc h))
   where
     go : (b : Bool) → sameBytes (getD xs i []) x ≡ b → before x (getD xs i []) ≡ true → placeFrom (suc k) (getD xs i []) xs ≡ some (suc k + i) → pick b (some k) (placeFrom (suc k) (getD xs i []) xs) ≡ some (k + suc i)
-    go true t later rest = absurd (let u : getD xs i [] ≡ x = bytes-same (getD xs i []) x t in let z : _≡_ {A = ℕ} 0 1 = cc (not-before x) in omega arith)
+    go true t later rest = absurd (let u : getD xs i [] ≡ x = bytes-same (getD xs i []) x t in clash (cc (not-before x)))
     go false t later rest = rw (add-suc k i, ← suc-add k i) rest
 
 -- what is found at a place stands there
@@ -56,7 +57,7 @@ pub record Stands (xs : List (List ℕ)) (k : ℕ) (word : List ℕ) (n : ℕ) :
 
 pub stands : (xs : List (List ℕ)) (k n : ℕ) (word : List ℕ) → placeFrom k word xs ≡ some n → Stands xs k word n
 unfolding placeFrom pick
-stands [] k n word e = absurd (let z : _≡_ {A = ℕ} 0 1 = cc in omega arith)
+stands [] k n word e = clash cc
 stands (x ∷ xs) k n word e = go (sameBytes word x) refl e (λ h. stands xs (suc k) n word h)
   where
     go : (b : Bool) → sameBytes word x ≡ b → pick b (some k) (placeFrom (suc k) word xs) ≡ some n → (placeFrom (suc k) word xs ≡ some n → Stands xs (suc k) word n) → Stands (x ∷ xs) k word n

@@ -9,6 +9,7 @@ use lib.ListN.{length, drop, length-append, length-drop}
 use lib.Seq.{take-at, drop-drop}
 use lib.Dec.{eqb}
 use borrow.Author.Tests.{eqb-true, eq-eqb, ne-eqb}
+use Rattle.ascii.proofs.Clash.{clash}
 use Rattle.ascii.specs.Bytes.{pick, isKeyStart, isKeyByte, isTokenStart, isTokenByte, isText}
 use Rattle.ascii.specs.Texts.{partOf}
 use Rattle.ascii.specs.Reading.{Parsed, Step, headOf, headIs, next, runOf, past, after, mapped, adding, onStep, turns}
@@ -164,11 +165,11 @@ left-parsed s m q x v = cc
 
 left-not : (A : Type 0) (s : List ℕ) (q : ℕ) → leftAt s (read.At q) ≡ restOf {A = A} malformed → ⊥
 unfolding restOf leftAt
-left-not A s q v = let z : _≡_ {A = ℕ} 0 1 = cc in omega arith
+left-not A s q v = clash cc
 
 none-parsed : {A : Type 0} (s m : List ℕ) (x : A) → leftAt s read.Malformed ≡ restOf (parsed x m) → ⊥
 unfolding restOf leftAt
-none-parsed s m x v = let z : _≡_ {A = ℕ} 0 1 = cc in omega arith
+none-parsed s m x v = clash cc
 
 -- an item that the code has found, by its kind and its places
 module _ (s : List ℕ) (i q : ℕ) (r : Read) (low-r : i < low r) (high-r : high r ≤ length s) (is : leftAt s r ≡ restOf (bareOf (drop i s))) (at : r ≡ read.At q) where
@@ -191,8 +192,8 @@ module _ (s : List ℕ) (i q : ℕ) (r : Read) (low-r : i < low r) (high-r : hig
           let n : q ≡ length s - length m = place-left s m q within-text d in
           let w : q - 1 ≡ i + 1 + length t = omega (arith, within-text, before, sym (length-drop i s) ∙ ap length (c .1), length-append (t ++ (34 ∷ [])) m, length-append t (34 ∷ []), sym (length-drop q s) ∙ ap length d) in
           λ j. item.Found (record { range = record { kind = kind.String; from = i + 1; to = w j }; next = n j })
-      go (parsed (token t) m) v c = absurd (let z : _≡_ {A = ℕ} 0 1 = cc in omega arith)
-      go (parsed other m) v c = absurd (let z : _≡_ {A = ℕ} 0 1 = cc in omega arith)
+      go (parsed (token t) m) v c = clash cc
+      go (parsed other m) v c = clash cc
       go malformed v c = absurd (left-not Item s q v)
 
   pub found-token : kind.Token ≡ kindBy (headOf (drop i s)) → item.Found (record { range = record { kind = kind.Token; from = i; to = q }; next = q }) ≡ itemFound s i (bareOf (drop i s))
@@ -205,8 +206,8 @@ module _ (s : List ℕ) (i q : ℕ) (r : Read) (low-r : i < low r) (high-r : hig
           let n : q ≡ length s - length m = place-left s m q within-text d in
           let w : q ≡ i + length t = omega (arith, within-text, before, sym (length-drop i s) ∙ ap length (c .1), length-append t m, sym (length-drop q s) ∙ ap length d) in
           λ j. item.Found (record { range = record { kind = kind.Token; from = i; to = w j }; next = n j })
-      go (parsed (string t) m) v c = absurd (let z : _≡_ {A = ℕ} 0 1 = cc in omega arith)
-      go (parsed other m) v c = absurd (let z : _≡_ {A = ℕ} 0 1 = cc in omega arith)
+      go (parsed (string t) m) v c = clash cc
+      go (parsed other m) v c = clash cc
       go malformed v c = absurd (left-not Item s q v)
 
   pub found-other : kind.Other ≡ kindBy (headOf (drop i s)) → item.Found (record { range = record { kind = kind.Other; from = i; to = i }; next = q }) ≡ itemFound s i (bareOf (drop i s))
@@ -217,8 +218,8 @@ module _ (s : List ℕ) (i q : ℕ) (r : Read) (low-r : i < low r) (high-r : hig
       go (parsed other m) v c =
           let n : q ≡ length s - length m = place-left s m q within-text (left-parsed s m q other v) in
           λ j. item.Found (record { range = record { kind = kind.Other; from = i; to = i }; next = n j })
-      go (parsed (string t) m) v c = absurd (let z : _≡_ {A = ℕ} 0 1 = cc in omega arith)
-      go (parsed (token t) m) v c = absurd (let z : _≡_ {A = ℕ} 0 1 = cc in omega arith)
+      go (parsed (string t) m) v c = clash cc
+      go (parsed (token t) m) v c = clash cc
       go malformed v c = absurd (left-not Item s q v)
 
 pub found-none : (s : List ℕ) (i : ℕ) (g : Parsed Item) (r : Read) → leftAt s r ≡ restOf g → r ≡ read.Malformed → item.Malformed ≡ itemFound s i g
@@ -310,7 +311,7 @@ unfolding itemOf
 item-as s i x m h e = go (bareOf (drop i s)) refl e
   where
     named : (y : Item) (g : Parsed (List Parameter)) → mapped (λ p. y) g ≡ parsed x m → y ≡ x
-    named = unfold mapped in (λ y. elim [ parsed p n ↦ λ u. cc | malformed ↦ λ u. absurd (let z : _≡_ {A = ℕ} 0 1 = cc in omega arith) ])
+    named = unfold mapped in (λ y. elim [ parsed p n ↦ λ u. cc | malformed ↦ λ u. clash cc ])
 
     go : (g : Parsed Item) → bareOf (drop i s) ≡ g → after g (λ y n. mapped (λ p. y) (paramsOf n)) ≡ parsed x m → itemAs s (itemRange i x) ≡ x
-    go = unfold after in (elim [ parsed y n ↦ λ b u. let v : y ≡ x = named y (paramsOf n) u in bare-as s i x n h (b ∙ ap (λ (z : Item). parsed z n) v) | malformed ↦ λ b u. absurd (let z : _≡_ {A = ℕ} 0 1 = cc in omega arith) ])
+    go = unfold after in (elim [ parsed y n ↦ λ b u. let v : y ≡ x = named y (paramsOf n) u in bare-as s i x n h (b ∙ ap (λ (z : Item). parsed z n) v) | malformed ↦ λ b u. clash cc ])

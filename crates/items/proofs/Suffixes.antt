@@ -7,6 +7,7 @@ use native.Mathlib.Omega.{arith}
 use lib.ListN.{length, length-append}
 use lib.Dec.{eqb, leb}
 use borrow.Author.Tests.{eqb-false}
+use Rattle.ascii.proofs.Clash.{clash}
 use Rattle.ascii.specs.Bytes.{pick, isTokenStart, isTokenByte, isDigit, isBase64}
 use Rattle.ascii.specs.Reading.{Parsed, headOf, headIs, next, skip, letLen, runOf, past, after, mapped, turns}
 use Rattle.ascii.specs.Reading.Parsed.{parsed, malformed}
@@ -98,7 +99,7 @@ pub record Shrinks {A : Type 0} (l : List ℕ) (g : Parsed A) : Type 0 where
 
 module _ {A : Type 0} (l : List ℕ) where
   shrinks-malformed : Shrinks {A = A} l malformed
-  shrinks-malformed = record { shorter = λ a n e. absurd (let z : _≡_ {A = ℕ} 0 1 = cc in omega arith) }
+  shrinks-malformed = record { shorter = λ a n e. clash cc }
 
   shrinks-pick : (b : Bool) (x y : Parsed A) → Shrinks l x → Shrinks l y → Shrinks l (pick b x y)
   unfolding pick

@@ -7,6 +7,7 @@ use native.Mathlib.Omega.{arith}
 use lib.ListN.{length, length-append}
 use lib.Dec.{leb, ltb, eqb}
 use borrow.Author.Tests.{leb-true, leb-false, lt-ltb, le-ltb, ltb-true, ltb-false, le-leb, eq-eqb, ne-eqb, eqb-false}
+use Rattle.ascii.proofs.Clash.{clash}
 use Rattle.limits.specs.Limits.{lastPort, portDigits}
 use Rattle.ascii.specs.Bytes.{pick, isDigit}
 use Rattle.ascii.specs.Texts.{every}
@@ -189,7 +190,7 @@ head-digit (x ∷ ds) h e = within-low 48 57 x (and-left (isDigit x) (every isDi
 
 number-some : (ds : List ℕ) → isNumber ds ≡ true → 1 ≤ length ds
 unfolding isNumber isEmpty
-number-some [] e = absurd (let z : _≡_ {A = ℕ} 0 1 = cc in omega arith)
+number-some [] e = clash cc
 number-some (x ∷ ds) e = omega arith
 
 -- an origin's port is what its number is written as

@@ -8,6 +8,7 @@ use native.Mathlib.Omega.{arith}
 use lib.ListN.{length}
 use lib.Dec.{leb, eqb}
 use borrow.Author.Tests.{eqb-true, ne-eqb, lt-leb, le-leb}
+use Rattle.ascii.proofs.Clash.{clash}
 use Rattle.limits.specs.Limits.{hostBytes}
 use Rattle.ascii.specs.Bytes.{pick, within, isDigit, isLower, isUpper, isLabelByte, isText, lower}
 use Rattle.ascii.specs.Texts.{every, each, lowered}
@@ -21,12 +22,12 @@ isHostByte b = isLabelByte b || eqb b 46
 
 bytes-step : (b a f u v w : Bool) → pick b (pick f false u) (pick a v false) ≡ true → (u ≡ true → w ≡ true) → (v ≡ true → w ≡ true) → (a || b) && w ≡ true
 unfolding pick
-bytes-step true true true u v w e g h = absurd (let z : _≡_ {A = ℕ} 0 1 = cc in omega arith)
+bytes-step true true true u v w e g h = clash cc
 bytes-step true true false u v w e g h = g e
-bytes-step true false true u v w e g h = absurd (let z : _≡_ {A = ℕ} 0 1 = cc in omega arith)
+bytes-step true false true u v w e g h = clash cc
 bytes-step true false false u v w e g h = g e
 bytes-step false true f u v w e g h = h e
-bytes-step false false f u v w e g h = absurd (let z : _≡_ {A = ℕ} 0 1 = cc in omega arith)
+bytes-step false false f u v w e g h = clash cc
 
 scan-bytes : (fresh : Bool) (h : List ℕ) → scan fresh h ≡ true → every isHostByte h ≡ true
 unfolding scan every

@@ -9,6 +9,7 @@ use lib.ListN.{length, take, drop, length-append, length-drop, length-take, take
 use lib.Seq.{take-at, drop-at, drop-drop, drop-append-le}
 use lib.Dec.{leb, ltb, eqb}
 use borrow.Author.Tests.{eqb-true, eqb-false, eq-eqb, ltb-true, lt-ltb, not-true}
+use Rattle.ascii.proofs.Clash.{clash}
 use Rattle.limits.specs.Limits.{lastPort, hostBytes, portDigits}
 use Rattle.ascii.specs.Bytes.{pick, lower}
 use Rattle.ascii.specs.Literals.{text}
@@ -60,7 +61,7 @@ port-is k ds n true u f =
     let q : eqb n (defaultPort k) ≡ false = rw d at (not-true (eqb (decimal ds) (defaultPort k)) (and-right (isNumber ds && not (leadsZero ds)) (not (eqb (decimal ds) (defaultPort k))) u)) in
     let c : portText n ≡ ds = rw d at (port-canonical ds a z) in
     record { is = rw (q, c); most = rw d at (number-most ds a); short = omega (arith, port-short ds a z) }
-port-is k ds n false u f = absurd (let z : _≡_ {A = ℕ} 0 1 = cc in omega arith)
+port-is k ds n false u f = clash cc
 
 port-said : (k : Scheme) {m : List ℕ} (n : ℕ) → Follows m → originPort k m ≡ some n → PortSaid k m n
 unfolding originPort isEmpty next pick
@@ -133,8 +134,8 @@ null-text s e = said-null s e
 -- comparing tuples: alike exactly if they are the same
 scheme-is : (k j : Scheme) → sameScheme k j ≡ true → k ≡ j
 scheme-is Http Http e = refl
-scheme-is Http Https e = absurd (let z : _≡_ {A = ℕ} 0 1 = cc in omega arith)
-scheme-is Https Http e = absurd (let z : _≡_ {A = ℕ} 0 1 = cc in omega arith)
+scheme-is Http Https e = clash cc
+scheme-is Https Http e = clash cc
 scheme-is Https Https e = refl
 
 scheme-self : (k : Scheme) → sameScheme k k ≡ true
@@ -165,11 +166,11 @@ same-texts s t a b e f = go (sameTuple a b) (sameBytes s t) refl refl
     go true false x y =
         let q : a ≡ b = tuples-is a b x in
         let r : s ≡ t = text-one s t b (rw q at e) f in
-        absurd (let z : _≡_ {A = ℕ} 0 1 = cc (same-bytes t) in omega arith)
+        clash (cc (same-bytes t))
     go false true x y =
         let r : s ≡ t = bytes-same s t y in
         let q : a ≡ b = cc in
-        absurd (let z : _≡_ {A = ℕ} 0 1 = cc (tuples-self b) in omega arith)
+        clash (cc (tuples-self b))
 
 -- an origin that a document can have is the same as itself; a fresh one is the same as nothing
 pub tuple-self : (a : TupleOrigin) → sameOrigin (tuple a) (tuple a) ≡ true
@@ -194,12 +195,12 @@ fresh-right fresh = refl
 pub same-one : (a b : Origin) → sameOrigin a b ≡ true → a ≡ b
 unfolding sameOrigin
 same-one (tuple a) (tuple b) e = ap tuple (tuples-is a b e)
-same-one (tuple a) (opaque n) e = absurd (let z : _≡_ {A = ℕ} 0 1 = cc in omega arith)
-same-one (tuple a) fresh e = absurd (let z : _≡_ {A = ℕ} 0 1 = cc in omega arith)
-same-one (opaque m) (tuple b) e = absurd (let z : _≡_ {A = ℕ} 0 1 = cc in omega arith)
+same-one (tuple a) (opaque n) e = clash cc
+same-one (tuple a) fresh e = clash cc
+same-one (opaque m) (tuple b) e = clash cc
 same-one (opaque m) (opaque n) e = ap opaque (eqb-true m n e)
-same-one (opaque m) fresh e = absurd (let z : _≡_ {A = ℕ} 0 1 = cc in omega arith)
-same-one fresh b e = absurd (let z : _≡_ {A = ℕ} 0 1 = cc in omega arith)
+same-one (opaque m) fresh e = clash cc
+same-one fresh b e = clash cc
 
 -- "No expression admits an opaque origin."
 pub admits-opaque : (e : SourceExpression) (n : ℕ) → admits e (opaque n) ≡ false
@@ -277,7 +278,7 @@ port-good l p false true c u e = let q : Any ≡ p = cc in subst (λ (x : PortPa
 port-good l p false false true u e =
     let q : Number (decimal l) ≡ p = cc in
     subst (λ (x : PortPart). GoodPort x) q (number-most l (and-right (leb (length l) portDigits) (isNumber l) (unfold isPortPart in u)))
-port-good l p false false false u e = absurd (let z : _≡_ {A = ℕ} 0 1 = cc in omega arith)
+port-good l p false false false u e = clash cc
 
 part-good : (l : List ℕ) (p : PortPart) → portPartOf l ≡ some p → GoodPort p
 unfolding portPartOf next
@@ -374,32 +375,32 @@ normal-fixed s e d f g =
 hosts-is : (x y : HostPart) → sameHost x y ≡ true → x ≡ y
 unfolding sameHost
 hosts-is noHost noHost e = refl
-hosts-is noHost anyHost e = absurd (let z : _≡_ {A = ℕ} 0 1 = cc in omega arith)
-hosts-is noHost (exactHost b) e = absurd (let z : _≡_ {A = ℕ} 0 1 = cc in omega arith)
-hosts-is noHost (subdomainsOf b) e = absurd (let z : _≡_ {A = ℕ} 0 1 = cc in omega arith)
-hosts-is anyHost noHost e = absurd (let z : _≡_ {A = ℕ} 0 1 = cc in omega arith)
+hosts-is noHost anyHost e = clash cc
+hosts-is noHost (exactHost b) e = clash cc
+hosts-is noHost (subdomainsOf b) e = clash cc
+hosts-is anyHost noHost e = clash cc
 hosts-is anyHost anyHost e = refl
-hosts-is anyHost (exactHost b) e = absurd (let z : _≡_ {A = ℕ} 0 1 = cc in omega arith)
-hosts-is anyHost (subdomainsOf b) e = absurd (let z : _≡_ {A = ℕ} 0 1 = cc in omega arith)
-hosts-is (exactHost a) noHost e = absurd (let z : _≡_ {A = ℕ} 0 1 = cc in omega arith)
-hosts-is (exactHost a) anyHost e = absurd (let z : _≡_ {A = ℕ} 0 1 = cc in omega arith)
+hosts-is anyHost (exactHost b) e = clash cc
+hosts-is anyHost (subdomainsOf b) e = clash cc
+hosts-is (exactHost a) noHost e = clash cc
+hosts-is (exactHost a) anyHost e = clash cc
 hosts-is (exactHost a) (exactHost b) e = ap exactHost (bytes-same a b e)
-hosts-is (exactHost a) (subdomainsOf b) e = absurd (let z : _≡_ {A = ℕ} 0 1 = cc in omega arith)
-hosts-is (subdomainsOf a) noHost e = absurd (let z : _≡_ {A = ℕ} 0 1 = cc in omega arith)
-hosts-is (subdomainsOf a) anyHost e = absurd (let z : _≡_ {A = ℕ} 0 1 = cc in omega arith)
-hosts-is (subdomainsOf a) (exactHost b) e = absurd (let z : _≡_ {A = ℕ} 0 1 = cc in omega arith)
+hosts-is (exactHost a) (subdomainsOf b) e = clash cc
+hosts-is (subdomainsOf a) noHost e = clash cc
+hosts-is (subdomainsOf a) anyHost e = clash cc
+hosts-is (subdomainsOf a) (exactHost b) e = clash cc
 hosts-is (subdomainsOf a) (subdomainsOf b) e = ap subdomainsOf (bytes-same a b e)
 
 ports-is : (p q : PortPart) → samePort p q ≡ true → p ≡ q
 unfolding samePort
 ports-is Default Default e = refl
-ports-is Default Any e = absurd (let z : _≡_ {A = ℕ} 0 1 = cc in omega arith)
-ports-is Default (Number n) e = absurd (let z : _≡_ {A = ℕ} 0 1 = cc in omega arith)
-ports-is Any Default e = absurd (let z : _≡_ {A = ℕ} 0 1 = cc in omega arith)
+ports-is Default Any e = clash cc
+ports-is Default (Number n) e = clash cc
+ports-is Any Default e = clash cc
 ports-is Any Any e = refl
-ports-is Any (Number n) e = absurd (let z : _≡_ {A = ℕ} 0 1 = cc in omega arith)
-ports-is (Number m) Default e = absurd (let z : _≡_ {A = ℕ} 0 1 = cc in omega arith)
-ports-is (Number m) Any e = absurd (let z : _≡_ {A = ℕ} 0 1 = cc in omega arith)
+ports-is Any (Number n) e = clash cc
+ports-is (Number m) Default e = clash cc
+ports-is (Number m) Any e = clash cc
 ports-is (Number m) (Number n) e = ap Number (eqb-true m n e)
 
 pub same-expression-is : (a b : SourceExpression) → sameExpression a b ≡ true → a ≡ b
@@ -437,8 +438,8 @@ same-expression-text a b g h = go (sameExpression a b) (sameBytes (expressionTex
     go false false x y = refl
     go true false x y =
         let q : a ≡ b = same-expression-is a b x in
-        absurd (let z : _≡_ {A = ℕ} 0 1 = cc (same-bytes (expressionText b)) in omega arith)
+        clash (cc (same-bytes (expressionText b)))
     go false true x y =
         let t : expressionText a ≡ expressionText b = bytes-same (expressionText a) (expressionText b) y in
         let q : a ≡ b = cc (expression-back a g, expression-back b h) in
-        absurd (let z : _≡_ {A = ℕ} 0 1 = cc (same-expression-self b) in omega arith)
+        clash (cc (same-expression-self b))

@@ -7,6 +7,7 @@ use native.Mathlib.Omega.{arith}
 use lib.ListN.{length, getD, drop}
 use lib.Dec.{eqb}
 use borrow.Author.Tests.{eq-eqb, ne-eqb, not-true, not-false}
+use Rattle.ascii.proofs.Clash.{clash}
 use Rattle.ascii.specs.Bytes.{pick, lower}
 use Rattle.ascii.specs.Texts.{each, lowered, sameBy, sameBytes, sameLowered, partOf}
 use Rattle.ascii.proofs.Texts.{same-each, same-end, same-long, same-short, same-more, same-ne}
@@ -71,20 +72,20 @@ module _ (a b : List ℕ) (i : ℕ) (r : Bool) (so-far : sameBy lower (drop i a)
 
 kind-is : (a b : HostKind) → sameKind a b ≡ true → a ≡ b
 kind-is kind.None kind.None e = refl
-kind-is kind.None kind.Any e = absurd (let z : _≡_ {A = ℕ} 0 1 = cc in omega arith)
-kind-is kind.None kind.Exact e = absurd (let z : _≡_ {A = ℕ} 0 1 = cc in omega arith)
-kind-is kind.None kind.Subdomains e = absurd (let z : _≡_ {A = ℕ} 0 1 = cc in omega arith)
-kind-is kind.Any kind.None e = absurd (let z : _≡_ {A = ℕ} 0 1 = cc in omega arith)
+kind-is kind.None kind.Any e = clash cc
+kind-is kind.None kind.Exact e = clash cc
+kind-is kind.None kind.Subdomains e = clash cc
+kind-is kind.Any kind.None e = clash cc
 kind-is kind.Any kind.Any e = refl
-kind-is kind.Any kind.Exact e = absurd (let z : _≡_ {A = ℕ} 0 1 = cc in omega arith)
-kind-is kind.Any kind.Subdomains e = absurd (let z : _≡_ {A = ℕ} 0 1 = cc in omega arith)
-kind-is kind.Exact kind.None e = absurd (let z : _≡_ {A = ℕ} 0 1 = cc in omega arith)
-kind-is kind.Exact kind.Any e = absurd (let z : _≡_ {A = ℕ} 0 1 = cc in omega arith)
+kind-is kind.Any kind.Exact e = clash cc
+kind-is kind.Any kind.Subdomains e = clash cc
+kind-is kind.Exact kind.None e = clash cc
+kind-is kind.Exact kind.Any e = clash cc
 kind-is kind.Exact kind.Exact e = refl
-kind-is kind.Exact kind.Subdomains e = absurd (let z : _≡_ {A = ℕ} 0 1 = cc in omega arith)
-kind-is kind.Subdomains kind.None e = absurd (let z : _≡_ {A = ℕ} 0 1 = cc in omega arith)
-kind-is kind.Subdomains kind.Any e = absurd (let z : _≡_ {A = ℕ} 0 1 = cc in omega arith)
-kind-is kind.Subdomains kind.Exact e = absurd (let z : _≡_ {A = ℕ} 0 1 = cc in omega arith)
+kind-is kind.Exact kind.Subdomains e = clash cc
+kind-is kind.Subdomains kind.None e = clash cc
+kind-is kind.Subdomains kind.Any e = clash cc
+kind-is kind.Subdomains kind.Exact e = clash cc
 kind-is kind.Subdomains kind.Subdomains e = refl
 
 other-kind : (a b : HostKind) (x y : List ℕ) → sameKind a b ≡ false → sameHost (hostIn a x) (hostIn b y) ≡ false
@@ -99,12 +100,12 @@ other-kind kind.Any kind.Exact x y e = refl
 other-kind kind.Any kind.Subdomains x y e = refl
 other-kind kind.Exact kind.None x y e = refl
 other-kind kind.Exact kind.Any x y e = refl
-other-kind kind.Exact kind.Exact x y e = absurd (let z : _≡_ {A = ℕ} 0 1 = cc in omega arith)
+other-kind kind.Exact kind.Exact x y e = clash cc
 other-kind kind.Exact kind.Subdomains x y e = refl
 other-kind kind.Subdomains kind.None x y e = refl
 other-kind kind.Subdomains kind.Any x y e = refl
 other-kind kind.Subdomains kind.Exact x y e = refl
-other-kind kind.Subdomains kind.Subdomains x y e = absurd (let z : _≡_ {A = ℕ} 0 1 = cc in omega arith)
+other-kind kind.Subdomains kind.Subdomains x y e = clash cc
 
 -- two expressions by their normal forms, test by test
 module _ (s t : List ℕ) (e f : ExpressionRange) (a : Bool) (u : a ≡ sameScheme (e .scheme) (f .scheme)) where

@@ -11,6 +11,7 @@ use lib.ListN.{length, getD, drop, drop-of-length-le}
 use lib.Seq.{drop-cons}
 use lib.Dec.{leb, ltb, eqb}
 use borrow.Author.Tests.{lt-ltb, eqb-false, le-leb, lt-leb, leb-true, leb-false, not-true, not-false}
+use Rattle.ascii.proofs.Clash.{clash}
 use Rattle.limits.specs.Limits.{lastPort, portDigits}
 use Rattle.ascii.specs.Texts.{every}
 use Rattle.ascii.specs.Bytes.{pick, isDigit}
@@ -120,10 +121,10 @@ module _ (ds : List ℕ) (e : isNumber ds ≡ true) where
 -- the code's number against the definition's
 pub digits-some : (o : Option ℕ) (r : Digits) (n : ℕ) → r ≡ digitsAs o → r ≡ digits.Number n → o ≡ some n
 digits-some (some m) r n e f = let k : m ≡ n = cc in rw k
-digits-some none r n e f = absurd (let z : _≡_ {A = ℕ} 0 1 = cc in omega arith)
+digits-some none r n e f = clash cc
 
 pub digits-none : (o : Option ℕ) (r : Digits) → r ≡ digitsAs o → r ≡ digits.None → o ≡ none
-digits-none (some m) r e f = absurd (let z : _≡_ {A = ℕ} 0 1 = cc in omega arith)
+digits-none (some m) r e f = clash cc
 digits-none none r e f = refl
 
 -- an origin's port: the number that the code reads decides, once no zero leads

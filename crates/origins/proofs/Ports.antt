@@ -8,6 +8,7 @@ use native.Mathlib.Omega.{arith}
 use lib.ListN.{length, take, drop}
 use lib.Dec.{eqb}
 use borrow.Author.Tests.{eq-eqb, ne-eqb}
+use Rattle.ascii.proofs.Clash.{clash}
 use Rattle.ascii.specs.Bytes.{pick}
 use Rattle.ascii.specs.Literals.{text}
 use Rattle.ascii.specs.Texts.{sameBytes}
@@ -77,11 +78,11 @@ module _ (k : Scheme) (p : List ℕ) where
 picked-some : (b : Bool) (m n : ℕ) → pick b (some m) none ≡ some n → pick b (some (Number m)) none ≡ some (Number n)
 unfolding pick
 picked-some true m n e = let k : m ≡ n = cc in rw k
-picked-some false m n e = absurd (let z : _≡_ {A = ℕ} 0 1 = cc in omega arith)
+picked-some false m n e = clash cc
 
 picked-none : (b : Bool) (m : ℕ) → pick b (some m) none ≡ none → pick b (some (Number m)) none ≡ none
 unfolding pick
-picked-none true m e = absurd (let z : _≡_ {A = ℕ} 0 1 = cc in omega arith)
+picked-none true m e = clash cc
 picked-none false m e = refl
 
 -- an expression's port-part

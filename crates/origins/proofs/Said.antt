@@ -4,11 +4,11 @@ use Prim.Native.Nat.{ℕ, _+_, _-_, _≤_, _<_, min}
 use mathlib.Core.List.{List, [], _∷_, _++_}
 use mathlib.Core.Bool.{Bool, true, false, not, _&&_}
 use mathlib.Core.Option.{Option, some, none}
-use native.Mathlib.Omega.{arith}
 use lib.ListN.{length, take, drop, length-append, length-drop, length-take, take-append-drop}
 use lib.Seq.{take-at, drop-drop, drop-append-le}
 use lib.Dec.{eqb}
 use borrow.Author.Tests.{eqb-true}
+use Rattle.ascii.proofs.Clash.{clash}
 use Rattle.ascii.specs.Bytes.{pick, lower}
 use Rattle.ascii.specs.Literals.{text}
 use Rattle.ascii.specs.Texts.{each, lowered, sameBytes, sameLowered, partOf}
@@ -46,7 +46,7 @@ starts-is t s e = sym (take-append-drop (length t) s) ∙ ap (λ (l : List ℕ).
 empty-is : (s : List ℕ) → isEmpty s ≡ true → s ≡ []
 unfolding isEmpty
 empty-is [] e = refl
-empty-is (x ∷ xs) e = absurd (let z : _≡_ {A = ℕ} 0 1 = cc in omega arith)
+empty-is (x ∷ xs) e = clash cc
 
 -- a text that says a tuple origin: its scheme and `://`, its host, and what follows
 pub record OriginParts (s : List ℕ) (o : TupleOrigin) : Type 0 where
@@ -62,8 +62,8 @@ tuple-said k s l o e true (some n) h p f =
     let r : _≡_ {A = TupleOrigin} (record { scheme = k; host = runOf notColon l; port = n }) o = cc in
     let x : OriginParts s (record { scheme = k; host = runOf notColon l; port = n }) = record { rest = past notColon l; follows = colon-follows l; is = e ∙ ap (λ (m : List ℕ). schemeSlashes k ++ m) (run-cut notColon l); host = h; port = p } in
     rw r at x
-tuple-said k s l o e true none h p f = absurd (let z : _≡_ {A = ℕ} 0 1 = cc in omega arith)
-tuple-said k s l o e false q h p f = absurd (let z : _≡_ {A = ℕ} 0 1 = cc in omega arith)
+tuple-said k s l o e true none h p f = clash cc
+tuple-said k s l o e false q h p f = clash cc
 
 tuple-parts : (k : Scheme) (s : List ℕ) (o : TupleOrigin) → startsWith (schemeSlashes k) s ≡ true → tupleOf k (drop (length (schemeSlashes k)) s) ≡ saysTuple o → OriginParts s o
 unfolding tupleOf
@@ -76,11 +76,11 @@ unfolding originOf
 origin-parts s o e = go (isEmpty s) (sameBytes s nullText) (startsWith (schemeSlashes Http) s) (startsWith (schemeSlashes Https) s) refl refl e
   where
     go : (a b c d : Bool) → startsWith (schemeSlashes Http) s ≡ c → startsWith (schemeSlashes Https) s ≡ d → pick a saysEmpty (pick b saysNull (pick c (tupleOf Http (drop 7 s)) (pick d (tupleOf Https (drop 8 s)) noOrigin))) ≡ saysTuple o → OriginParts s o
-    go true b c d u v f = absurd (let z : _≡_ {A = ℕ} 0 1 = unfold pick in cc in omega arith)
-    go false true c d u v f = absurd (let z : _≡_ {A = ℕ} 0 1 = unfold pick in cc in omega arith)
+    go true b c d u v f = clash (unfold pick in cc)
+    go false true c d u v f = clash (unfold pick in cc)
     go false false true d u v f = tuple-parts Http s o u (unfold pick in f)
     go false false false true u v f = tuple-parts Https s o v (unfold pick in f)
-    go false false false false u v f = absurd (let z : _≡_ {A = ℕ} 0 1 = unfold pick in cc in omega arith)
+    go false false false false u v f = clash (unfold pick in cc)
 
 -- only the empty text says "empty", and only `null` "null"
 tuple-no-empty : (k : Scheme) (l : List ℕ) → (tupleOf k l ≡ saysEmpty → ⊥) × (tupleOf k l ≡ saysNull → ⊥)
@@ -88,9 +88,9 @@ unfolding tupleOf
 tuple-no-empty k l = go (isHost (runOf notColon l)) (originPort k (past notColon l))
   where
     go : (b : Bool) (q : Option ℕ) → (pick b (withPort k (runOf notColon l) q) noOrigin ≡ saysEmpty → ⊥) × (pick b (withPort k (runOf notColon l) q) noOrigin ≡ saysNull → ⊥)
-    go true (some n) = (λ f. let z : _≡_ {A = ℕ} 0 1 = unfold pick withPort in cc in omega arith, λ f. let z : _≡_ {A = ℕ} 0 1 = unfold pick withPort in cc in omega arith)
-    go true none = (λ f. let z : _≡_ {A = ℕ} 0 1 = unfold pick withPort in cc in omega arith, λ f. let z : _≡_ {A = ℕ} 0 1 = unfold pick withPort in cc in omega arith)
-    go false q = (λ f. let z : _≡_ {A = ℕ} 0 1 = unfold pick in cc in omega arith, λ f. let z : _≡_ {A = ℕ} 0 1 = unfold pick in cc in omega arith)
+    go true (some n) = (λ f. clash (unfold pick withPort in cc), λ f. clash (unfold pick withPort in cc))
+    go true none = (λ f. clash (unfold pick withPort in cc), λ f. clash (unfold pick withPort in cc))
+    go false q = (λ f. clash (unfold pick in cc), λ f. clash (unfold pick in cc))
 
 pub said-empty : (s : List ℕ) → originOf s ≡ saysEmpty → s ≡ []
 unfolding originOf
@@ -98,30 +98,30 @@ said-empty s e = go (isEmpty s) (sameBytes s nullText) (startsWith (schemeSlashe
   where
     go : (a b c d : Bool) → isEmpty s ≡ a → pick a saysEmpty (pick b saysNull (pick c (tupleOf Http (drop 7 s)) (pick d (tupleOf Https (drop 8 s)) noOrigin))) ≡ saysEmpty → s ≡ []
     go true b c d u f = empty-is s u
-    go false true c d u f = absurd (let z : _≡_ {A = ℕ} 0 1 = unfold pick in cc in omega arith)
+    go false true c d u f = clash (unfold pick in cc)
     go false false true d u f = absurd (tuple-no-empty Http (drop 7 s) .0 (unfold pick in f))
     go false false false true u f = absurd (tuple-no-empty Https (drop 8 s) .0 (unfold pick in f))
-    go false false false false u f = absurd (let z : _≡_ {A = ℕ} 0 1 = unfold pick in cc in omega arith)
+    go false false false false u f = clash (unfold pick in cc)
 
 pub said-null : (s : List ℕ) → originOf s ≡ saysNull → s ≡ nullText
 unfolding originOf
 said-null s e = go (isEmpty s) (sameBytes s nullText) (startsWith (schemeSlashes Http) s) (startsWith (schemeSlashes Https) s) refl e
   where
     go : (a b c d : Bool) → sameBytes s nullText ≡ b → pick a saysEmpty (pick b saysNull (pick c (tupleOf Http (drop 7 s)) (pick d (tupleOf Https (drop 8 s)) noOrigin))) ≡ saysNull → s ≡ nullText
-    go true b c d u f = absurd (let z : _≡_ {A = ℕ} 0 1 = unfold pick in cc in omega arith)
+    go true b c d u f = clash (unfold pick in cc)
     go false true c d u f = bytes-same s nullText u
     go false false true d u f = absurd (tuple-no-empty Http (drop 7 s) .1 (unfold pick in f))
     go false false false true u f = absurd (tuple-no-empty Https (drop 8 s) .1 (unfold pick in f))
-    go false false false false u f = absurd (let z : _≡_ {A = ℕ} 0 1 = unfold pick in cc in omega arith)
+    go false false false false u f = clash (unfold pick in cc)
 
 -- a host part is one of three
 host-said : (g : List ℕ) (x : HostPart) (a b c d : Bool) → isHost (drop 2 g) ≡ c → isHost g ≡ d → pick a (some anyHost) (pick b (pick c (some (subdomainsOf (drop 2 g))) none) (pick d (some (exactHost g)) none)) ≡ some x → (P : Type 0) → (x ≡ anyHost → P) → (isHost g ≡ true → x ≡ exactHost g → P) → (isHost (drop 2 g) ≡ true → x ≡ subdomainsOf (drop 2 g) → P) → P
 unfolding pick
 host-said g x true b c d u v e P l m n = l cc
 host-said g x false true true d u v e P l m n = n u cc
-host-said g x false true false d u v e P l m n = absurd (let z : _≡_ {A = ℕ} 0 1 = cc in omega arith)
+host-said g x false true false d u v e P l m n = clash cc
 host-said g x false false c true u v e P l m n = m v cc
-host-said g x false false c false u v e P l m n = absurd (let z : _≡_ {A = ℕ} 0 1 = cc in omega arith)
+host-said g x false false c false u v e P l m n = clash cc
 
 pub host-cases : (g : List ℕ) (x : HostPart) → hostPartOf g ≡ some x → (P : Type 0) → (x ≡ anyHost → P) → (isHost g ≡ true → x ≡ exactHost g → P) → (isHost (drop 2 g) ≡ true → x ≡ subdomainsOf (drop 2 g) → P) → P
 unfolding hostPartOf
@@ -139,8 +139,8 @@ source-said k s e n (some x) (some p) h q f =
     let r : _≡_ {A = SourceExpression} (record { scheme = k; host = x; port = p }) e = cc in
     let y : SourceParts s (record { scheme = k; host = x; port = p }) = record { long = n; host = h; port = q } in
     rw r at y
-source-said k s e n (some x) none h q f = absurd (let z : _≡_ {A = ℕ} 0 1 = cc in omega arith)
-source-said k s e n none p h q f = absurd (let z : _≡_ {A = ℕ} 0 1 = cc in omega arith)
+source-said k s e n (some x) none h q f = clash cc
+source-said k s e n none p h q f = clash cc
 
 source-parts : (k : Scheme) (s : List ℕ) (e : SourceExpression) → startsLowered (schemeSlashes k) s ≡ true → hostSourceOf k (drop (length (schemeSlashes k)) s) ≡ some e → SourceParts s e
 unfolding hostSourceOf
@@ -156,4 +156,4 @@ source-cases s e f P l m = go (sameLowered s (schemeText Http)) (sameLowered s (
     go false true c d u v g = l Https (unfold pick in cc)
     go false false true d u v g = m (source-parts Http s e u (unfold pick in g))
     go false false false true u v g = m (source-parts Https s e v (unfold pick in g))
-    go false false false false u v g = absurd (let z : _≡_ {A = ℕ} 0 1 = unfold pick in cc in omega arith)
+    go false false false false u v g = clash (unfold pick in cc)

@@ -7,6 +7,7 @@ use mathlib.Core.Option.{Option, some, none}
 use native.Mathlib.Omega.{arith}
 use lib.ListN.{length, take, drop, length-drop, length-take}
 use borrow.Author.Tests.{not-true, not-false}
+use Rattle.ascii.proofs.Clash.{clash}
 use Rattle.ascii.specs.Bytes.{pick, lower, within}
 use Rattle.ascii.specs.Texts.{every, each, lowered, sameBytes}
 use Rattle.ascii.specs.Reading.{runOf, past}
@@ -39,10 +40,10 @@ use Rattle.origins.proofs.Steps.{each-as-is, each-length, rest-all}
 
 ports-some : (o : Option PortPart) (r : PortRead) (p : PortPart) → r ≡ portAs o → r ≡ port.Part p → o ≡ some p
 ports-some (some m) r p e f = let k : m ≡ p = cc in rw k
-ports-some none r p e f = absurd (let z : _≡_ {A = ℕ} 0 1 = cc in omega arith)
+ports-some none r p e f = clash cc
 
 ports-none : (o : Option PortPart) (r : PortRead) → r ≡ portAs o → r ≡ port.None → o ≡ none
-ports-none (some m) r e f = absurd (let z : _≡_ {A = ℕ} 0 1 = cc in omega arith)
+ports-none (some m) r e f = clash cc
 ports-none none r e f = refl
 
 -- what the code's answer on a host part says of the reading
@@ -53,33 +54,33 @@ module _ (h : List ℕ) (q : HostRead) where
   any-from : (a b c d : Bool) → q ≡ hostAs (parts a b c d) → q ≡ host.Any → parts a b c d ≡ some anyHost
   unfolding pick
   any-from true b c d e f = refl
-  any-from false true true d e f = absurd (let z : _≡_ {A = ℕ} 0 1 = cc in omega arith)
-  any-from false true false d e f = absurd (let z : _≡_ {A = ℕ} 0 1 = cc in omega arith)
-  any-from false false c true e f = absurd (let z : _≡_ {A = ℕ} 0 1 = cc in omega arith)
-  any-from false false c false e f = absurd (let z : _≡_ {A = ℕ} 0 1 = cc in omega arith)
+  any-from false true true d e f = clash cc
+  any-from false true false d e f = clash cc
+  any-from false false c true e f = clash cc
+  any-from false false c false e f = clash cc
 
   exact-from : (a b c d : Bool) → q ≡ hostAs (parts a b c d) → q ≡ host.Exact → parts a b c d ≡ some (exactHost h)
   unfolding pick
-  exact-from true b c d e f = absurd (let z : _≡_ {A = ℕ} 0 1 = cc in omega arith)
-  exact-from false true true d e f = absurd (let z : _≡_ {A = ℕ} 0 1 = cc in omega arith)
-  exact-from false true false d e f = absurd (let z : _≡_ {A = ℕ} 0 1 = cc in omega arith)
+  exact-from true b c d e f = clash cc
+  exact-from false true true d e f = clash cc
+  exact-from false true false d e f = clash cc
   exact-from false false c true e f = refl
-  exact-from false false c false e f = absurd (let z : _≡_ {A = ℕ} 0 1 = cc in omega arith)
+  exact-from false false c false e f = clash cc
 
   subdomains-from : (a b c d : Bool) → q ≡ hostAs (parts a b c d) → q ≡ host.Subdomains → (parts a b c d ≡ some (subdomainsOf (drop 2 h))) × (c ≡ true)
   unfolding pick
-  subdomains-from true b c d e f = absurd (let z : _≡_ {A = ℕ} 0 1 = cc in omega arith)
+  subdomains-from true b c d e f = clash cc
   subdomains-from false true true d e f = (refl, refl)
-  subdomains-from false true false d e f = absurd (let z : _≡_ {A = ℕ} 0 1 = cc in omega arith)
-  subdomains-from false false c true e f = absurd (let z : _≡_ {A = ℕ} 0 1 = cc in omega arith)
-  subdomains-from false false c false e f = absurd (let z : _≡_ {A = ℕ} 0 1 = cc in omega arith)
+  subdomains-from false true false d e f = clash cc
+  subdomains-from false false c true e f = clash cc
+  subdomains-from false false c false e f = clash cc
 
   none-from : (a b c d : Bool) → q ≡ hostAs (parts a b c d) → q ≡ host.None → parts a b c d ≡ none
   unfolding pick
-  none-from true b c d e f = absurd (let z : _≡_ {A = ℕ} 0 1 = cc in omega arith)
-  none-from false true true d e f = absurd (let z : _≡_ {A = ℕ} 0 1 = cc in omega arith)
+  none-from true b c d e f = clash cc
+  none-from false true true d e f = clash cc
   none-from false true false d e f = refl
-  none-from false false c true e f = absurd (let z : _≡_ {A = ℕ} 0 1 = cc in omega arith)
+  none-from false false c true e f = clash cc
   none-from false false c false e f = refl
 
 module _ (h : List ℕ) (q : HostRead) (e : q ≡ hostAs (hostPartOf h)) where

@@ -5,6 +5,7 @@ use mathlib.Core.List.{List, [], _∷_, _++_, map, append-assoc, append-nil}
 use mathlib.Core.Bool.{Bool, true, false, _||_}
 use native.Mathlib.Omega.{arith}
 use native.Mathlib.Nat.{le-refl}
+use Rattle.ascii.proofs.Clash.{clash}
 use Rattle.ascii.specs.Texts.{partOf}
 use Rattle.ascii.proofs.Bytes.{or-false, or-true}
 use Rattle.origins.specs.Expressions.{SourceExpression}
@@ -84,7 +85,7 @@ further s f (step c d g es q h b) n e =
 
 no-further : (s : List ℕ) {c d : ℕ} {es : List SourceExpression} → Between s c d es → (c ≡ d → ⊥) → cursorAt s c ≡ list.End → ⊥
 no-further s (here c) n e = n refl
-no-further s (step c d g es q h b) n e = let z : _≡_ {A = ℕ} 0 1 = cc in omega arith
+no-further s (step c d g es q h b) n e = clash cc
 
 between-snoc : (s : List ℕ) (f : ItemFound) {c d : ℕ} {es : List SourceExpression} → Between s c d es → cursorAt s d ≡ list.Item f → d < f .next → Between s c (f .next) (es ++ itemNormals s f)
 between-snoc s f (here c) e h = rw append-nil at (step c (f .next) f [] e h (here (f .next)))

@@ -9,6 +9,7 @@ use native.Mathlib.Nat.{add-zero, add-suc, suc-add, zero-add}
 use lib.ListN.{length, drop}
 use lib.Dec.{ltb, eqb}
 use borrow.Author.Tests.{le-ltb, ltb-false, eqb-true, eqb-false}
+use Rattle.ascii.proofs.Clash.{clash}
 use Rattle.limits.specs.Limits.{textBytes}
 use Rattle.ascii.specs.Bytes.{pick}
 use Rattle.ascii.specs.Literals.{text}
@@ -243,7 +244,7 @@ or-in false b f = refl
 
 among-any : (e : SourceExpression) (es : List SourceExpression) (o : Origin) → among e es ≡ true → admits e o || anyAdmits es o ≡ anyAdmits es o
 unfolding among
-among-any e [] o h = absurd (let z : _≡_ {A = ℕ} 0 1 = cc in omega arith)
+among-any e [] o h = clash cc
 among-any e (f ∷ fs) o h = go (sameExpression e f) refl h (λ g. among-any e fs o g)
   where
     go : (b : Bool) → sameExpression e f ≡ b → b || among e fs ≡ true → (among e fs ≡ true → admits e o || anyAdmits fs o ≡ anyAdmits fs o) → admits e o || anyAdmits (f ∷ fs) o ≡ anyAdmits (f ∷ fs) o
@@ -261,7 +262,7 @@ bools-kept false x y b h = h
 
 bools-there : (a x y b : Bool) → a || b ≡ b → x || (a || b) ≡ y || (a || b) → x || b ≡ (a || y) || b
 bools-there true x y true k h = or-true x
-bools-there true x y false k h = absurd (let z : _≡_ {A = ℕ} 0 1 = cc in omega arith)
+bools-there true x y false k h = clash cc
 bools-there false x y b k h = h
 
 any-once : (before es : List SourceExpression) (o : Origin) → anyAdmits (onceAfter before es) o || anyAdmits before o ≡ anyAdmits es o || anyAdmits before o
@@ -288,7 +289,7 @@ any-normals es o =
 
 -- hence the same policy admits the same origins, for every own origin and every origin asked about
 same-by : {a b : Option Allowlist} → SamePolicy a b → (l m : Allowlist) → a ≡ some l → b ≡ some m → (own o : Origin) → allows l own o ≡ allows m own o
-same-by undeclared l m e f own o = absurd (let z : _≡_ {A = ℕ} 0 1 = cc in omega arith)
+same-by undeclared l m e f own o = clash cc
 same-by everything l m e f own o =
     let p : all ≡ l = cc in
     let q : all ≡ m = cc in
@@ -331,10 +332,10 @@ tidied-twice s = unfold tidied in (ap written (from-same s 0 featureCount (omega
 -- so tidying the tidied text, with a run that is long enough, answers the same length and writes the same bytes
 length-said : (s : List ℕ) (room n : ℕ) (a b c d : Bool) → ltb textBytes (length (tidied s)) ≡ c → pick a (refusal 4) (pick b (refusal 8) (pick c (refusal 4) (pick d (refusal 9) (lengthIs (length (tidied s)))))) ≡ lengthIs n → (length (tidied s) ≡ n) × (length (tidied s) ≤ textBytes)
 unfolding pick
-length-said s room n true b c d u e = absurd (let z : _≡_ {A = ℕ} 0 1 = cc in omega arith)
-length-said s room n false true c d u e = absurd (let z : _≡_ {A = ℕ} 0 1 = cc in omega arith)
-length-said s room n false false true d u e = absurd (let z : _≡_ {A = ℕ} 0 1 = cc in omega arith)
-length-said s room n false false false true u e = absurd (let z : _≡_ {A = ℕ} 0 1 = cc in omega arith)
+length-said s room n true b c d u e = clash cc
+length-said s room n false true c d u e = clash cc
+length-said s room n false false true d u e = clash cc
+length-said s room n false false false true u e = clash cc
 length-said s room n false false false false u e = (cc, ltb-false textBytes (length (tidied s)) u)
 
 module _ (s : List ℕ) (room n : ℕ) (e : tidyAnswer s room ≡ lengthIs n) where

@@ -22,6 +22,8 @@ in-class-spec =
     (λ c. search needs)
     (λ c κs. search needs)
     (λ c. search needs)
+    (λ c. search needs)
+    (λ c. cc)
     (λ c. cc)
     (λ c. cc)
     (λ c. cc)
