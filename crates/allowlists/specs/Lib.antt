@@ -1,0 +1,4 @@
+pub mod Allowlists
+pub mod Widening
+pub mod Answers
+pub mod Computing

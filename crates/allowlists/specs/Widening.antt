@@ -1,0 +1,15 @@
+-- Demand 3: when one allowlist admits at least what another admits.
+use mathlib.Core.Path.{_≡_}
+use mathlib.Core.Bool.{Bool, true}
+use mathlib.Core.Option.{Option, some, none}
+use Rattle.origins.specs.Origins.{Origin}
+use Rattle.allowlists.specs.Allowlists.{Allowlist, listAdmits}
+
+-- every origin that one allowlist admits the other admits too, whatever the self-origin and the src-origin are
+pub record Wider (l m : Allowlist) : Type 0 where
+  pub keeps : (isSelf isSrc : Bool) (o : Origin) → listAdmits l isSelf isSrc o ≡ true → listAdmits m isSelf isSrc o ≡ true
+
+-- neither has a list, or both have and the second is as wide
+pub data AsWide : Option Allowlist → Option Allowlist → Type 0 where
+  neither : AsWide none none
+  both : {l m : Allowlist} → Wider l m → AsWide (some l) (some m)
