@@ -1,7 +1,7 @@
 -- The laws of allowlists, for the crates above, which open no definition of this crate; `Meanings` is a part of them. Assumes nothing.
 use mathlib.Core.Path.{_≡_, refl, ap, _∙_, sym}
 use Prim.Native.Nat.{ℕ}
-use mathlib.Core.List.{List, [], _∷_, _++_}
+use mathlib.Core.List.{List, [], _∷_, _++_, map}
 use mathlib.Core.Bool.{Bool, true, false, _&&_, _||_}
 use mathlib.Core.Option.{Option, some, none}
 use Rattle.ascii.specs.Bytes.{pick}
@@ -12,7 +12,7 @@ use Rattle.origins.specs.Origins.Origin.{opaque, fresh}
 use Rattle.origins.specs.Expressions.{SourceExpression}
 use Rattle.origins.specs.Matching.{admits, sameOrigin}
 use Rattle.origins.proofs.Laws.{admits-fresh, admits-opaque, fresh-right}
-use Rattle.allowlists.specs.Allowlists.{Allowlist, Meaning, isStar, isSelf, isSrc, withSource, someIs, hasStar, hasSelf, hasSrc, sourcesOf, allowlist, allowlistOf, anyAdmits, listAdmits, allows, someAdmits, meaningAdmits}
+use Rattle.allowlists.specs.Allowlists.{Allowlist, Meaning, isStar, isSelf, isSrc, sourceMeaning, withSource, someIs, hasStar, hasSelf, hasSrc, sourcesOf, allowlist, allowlistOf, anyAdmits, listAdmits, allows, someAdmits, meaningAdmits}
 use Rattle.allowlists.specs.Allowlists.Allowlist.{all, listed}
 use Rattle.allowlists.specs.Allowlists.Meaning.{star, self, src, source, nothing}
 use Rattle.allowlists.specs.Answers.{admissionAs, admissionIn}
@@ -68,6 +68,28 @@ listed-sources ms x y es e = go (hasStar ms) e
     go true f = clash (unfold pick in cc)
     go false f = unfold pick in cc
 
+pub listed-src : (ms : List Meaning) (x y : Bool) (es : List SourceExpression) → allowlistOf ms ≡ listed x y es → hasSrc ms ≡ y
+unfolding allowlistOf allowlist
+listed-src ms x y es e = go (hasStar ms) e
+  where
+    go : (t : Bool) → pick t all (listed (hasSelf ms) (hasSrc ms) (sourcesOf ms)) ≡ listed x y es → hasSrc ms ≡ y
+    go true f = clash (unfold pick in cc)
+    go false f = unfold pick in cc
+
+-- whether several meanings pass a test
+pub has-nil : (test : Meaning → Bool) → someIs test [] ≡ false
+unfolding someIs
+has-nil test = refl
+
+pub has-cons : (test : Meaning → Bool) (m : Meaning) (ms : List Meaning) → someIs test (m ∷ ms) ≡ test m || someIs test ms
+unfolding someIs
+has-cons test m ms = refl
+
+-- a text that is an expression means it
+pub source-some : (e : SourceExpression) → sourceMeaning (some e) ≡ source e
+unfolding sourceMeaning
+source-some e = refl
+
 -- the expressions of several meanings
 pub sources-nil : sourcesOf [] ≡ []
 unfolding sourcesOf
@@ -77,6 +99,27 @@ pub sources-cons : (m : Meaning) (ms : List Meaning) → sourcesOf (m ∷ ms) �
 unfolding sourcesOf
 sources-cons m ms = refl
 
+module _ (es : List SourceExpression) where
+  pub with-star : withSource star es ≡ es
+  unfolding withSource
+  with-star = refl
+
+  pub with-self : withSource self es ≡ es
+  unfolding withSource
+  with-self = refl
+
+  pub with-src : withSource src es ≡ es
+  unfolding withSource
+  with-src = refl
+
+  pub with-nothing : withSource nothing es ≡ es
+  unfolding withSource
+  with-nothing = refl
+
+pub with-source : (e : SourceExpression) (es : List SourceExpression) → withSource (source e) es ≡ e ∷ es
+unfolding withSource
+with-source e es = refl
+
 pub with-append : (m : Meaning) (es : List SourceExpression) → withSource m es ≡ withSource m [] ++ es
 unfolding withSource
 with-append star es = refl
@@ -84,6 +127,39 @@ with-append self es = refl
 with-append src es = refl
 with-append (source e) es = refl
 with-append nothing es = refl
+
+-- a list of expressions alone, and with the self-origin before them; `*` alone
+plain-star : (es : List SourceExpression) → hasStar (map source es) ≡ false
+unfolding someIs
+plain-star [] = refl
+plain-star (e ∷ es) = plain-star es
+
+plain-self : (es : List SourceExpression) → hasSelf (map source es) ≡ false
+unfolding someIs
+plain-self [] = refl
+plain-self (e ∷ es) = plain-self es
+
+plain-src : (es : List SourceExpression) → hasSrc (map source es) ≡ false
+unfolding someIs
+plain-src [] = refl
+plain-src (e ∷ es) = plain-src es
+
+plain-sources : (es : List SourceExpression) → sourcesOf (map source es) ≡ es
+unfolding sourcesOf withSource
+plain-sources [] = refl
+plain-sources (e ∷ es) = ap (λ (l : List SourceExpression). e ∷ l) (plain-sources es)
+
+pub sources-plain : (es : List SourceExpression) → allowlistOf (map source es) ≡ listed false false es
+unfolding allowlistOf allowlist pick
+sources-plain es = rw (plain-star es, plain-self es, plain-src es, plain-sources es)
+
+pub self-sources-plain : (es : List SourceExpression) → allowlistOf (self ∷ map source es) ≡ listed true false es
+unfolding allowlistOf allowlist pick someIs sourcesOf withSource
+self-sources-plain es = rw (plain-star es, plain-src es, plain-sources es)
+
+pub star-alone : allowlistOf (star ∷ []) ≡ all
+unfolding allowlistOf allowlist pick someIs
+star-alone = refl
 
 -- an empty list admits nobody; one meaning more, or what it admits alone
 pub empty-admits : (a b : Bool) (o : Origin) → listAdmits (allowlistOf []) a b o ≡ false

@@ -1,138 +1,79 @@
--- The laws of declarations, for the crates above: nothing there opens a definition of this crate. Assumes nothing.
-use mathlib.Core.Path.{_≡_, refl, ap, _∙_, sym, subst}
-use Prim.Native.Nat.{ℕ, zero, suc, _+_, _<_}
-use mathlib.Core.List.{List, [], _∷_, _++_}
-use mathlib.Core.Bool.{Bool, true, false, not, _&&_, _||_}
+-- The laws of declarations, for the crates above, which open no definition of this crate; `Meanings`, `Written` and `Few` are parts of them. Assumes nothing.
+use mathlib.Core.Path.{_≡_, refl, ap, _∙_, sym}
+use Prim.Native.Nat.{ℕ}
+use mathlib.Core.List.{List, [], _∷_, _++_, map}
+use mathlib.Core.Bool.{Bool, true, false, not, _||_}
 use mathlib.Core.Option.{Option, some, none}
-use native.Mathlib.Omega.{arith}
-use native.Mathlib.Nat.{add-zero, add-suc, suc-add, zero-add}
-use lib.ListN.{getD}
-use Rattle.ascii.proofs.Clash.{clash}
 use Rattle.ascii.specs.Bytes.{pick}
-use Rattle.ascii.proofs.Bytes.{or-false, and-false}
+use Rattle.ascii.proofs.Clash.{clash}
+use Rattle.features.specs.Features.{nameOf}
 use Rattle.origins.specs.Origins.{Origin}
 use Rattle.origins.specs.Origins.Origin.{opaque, fresh}
-use Rattle.origins.proofs.Laws.{admits-opaque, admits-fresh, fresh-right}
 use Rattle.origins.specs.Expressions.{SourceExpression}
-use Rattle.origins.specs.Matching.{admits, sameOrigin}
-use Rattle.features.specs.Features.{nameOf, featureCount}
+use Rattle.origins.specs.Matching.{sameOrigin}
+use Rattle.origins.proofs.Laws.{fresh-right}
 use Rattle.items.specs.Items.{Item}
-use Rattle.items.specs.Found.{itemAs}
 use Rattle.dictionaries.specs.Dictionaries.{Value, Plain, members}
 use Rattle.dictionaries.specs.Dictionaries.Value.{one, many}
-use Rattle.dictionaries.specs.Lookup.{itemsFrom, cursorAt, lastFound, lastValueIn, isSome}
+use Rattle.dictionaries.specs.Lookup.{lastValueIn, isSome}
 use Rattle.dictionaries.specs.Added.{OneItemMore}
-use Rattle.dictionaries.specs.declared.MemberFound.{MemberFound}
-use Rattle.dictionaries.specs.declared.MemberFound.the-variants as found
-use Rattle.dictionaries.proofs.Laws.{empty-members, last-of-empty, last-of-none, last-malformed, last-absent, last-item, last-list, items-item, items-end, Grown, LastGrown, last-grown}
+use Rattle.dictionaries.proofs.Laws.{empty-members, last-of-empty, last-of-none, Grown, LastGrown, last-grown}
 use Rattle.dictionaries.proofs.Laws.Grown.{same, grown}
-use Rattle.declarations.specs.Allowlists.{Allowlist, Meaning, meaningOf, isStar, isSelf, withSource, hasStar, hasSelf, sourcesOf, allowlist, allowlistOf, anyAdmits, listAdmits, allows}
-use Rattle.declarations.specs.Allowlists.Allowlist.{all, listed}
-use Rattle.declarations.specs.Allowlists.Meaning.{star, self, source, nothing}
-use Rattle.declarations.specs.Declarations.{loneDeclares, valueDeclares, lastDeclares, declares, isMalformed}
-use Rattle.declarations.specs.Settings.{itemsAt, listItem, itemAt, itemsIn, settingAs, undeclared, declaredBy, loneSetting, memberSetting, settingOf, settingsFrom, someAdmits, IsSettled}
-use Rattle.declarations.specs.Widening.{Wider, DeclaresMore}
-use Rattle.declarations.specs.Widening.DeclaresMore.{neither, both}
-use Rattle.dictionaries.specs.declared.ListItem.{ListItem}
-use Rattle.dictionaries.specs.declared.ListItem.the-variants as list
-use Rattle.declarations.specs.declared.Cursor.{Cursor}
-use Rattle.declarations.specs.declared.Cursor.the-variants as cursor
-use Rattle.declarations.specs.declared.Settings.{Settings}
-use Rattle.declarations.specs.declared.Setting.{Setting}
+use Rattle.allowlists.specs.Allowlists.{Allowlist, Meaning, allowlistOf, listAdmits, someAdmits}
+use Rattle.allowlists.specs.Allowlists.Allowlist.{all, listed}
+use Rattle.allowlists.specs.Allowlists.Meaning.{star, self, src, source, nothing}
+use Rattle.allowlists.specs.Widening.{Wider, AsWide}
+use Rattle.allowlists.specs.Widening.AsWide.{neither, both}
+use Rattle.allowlists.proofs.Laws.{some-admits, none-admits, meaning-wider, as-wide-self, fresh-all, opaque-all}
+use Rattle.declarations.specs.Declarations.{itemMeaning, itemsList, loneDeclares, valueDeclares, lastDeclares, declares, isMalformed, declaredAdmits}
 
--- what is settled of a header says what the header declares
-lone-says : (s : List ℕ) (x : Item) (m : Meaning) (d : Setting) → settingAs s d ≡ some (allowlistOf (x ∷ [])) → settingAs s (loneSetting m d) ≡ loneDeclares m (allowlistOf (x ∷ []))
-unfolding loneSetting loneDeclares
-lone-says s x star d e = e
-lone-says s x self d e = e
-lone-says s x (source y) d e = e
-lone-says s x nothing d e = unfold settingAs pick in refl
+-- what a header declares, by its members
+module _ (s : List ℕ) (n : ℕ) where
+  pub declares-last : declares s n ≡ lastDeclares (lastValueIn (nameOf n) (members s))
+  unfolding declares
+  declares-last = refl
 
-member-says : (s : List ℕ) (key : List ℕ) (r : MemberFound) → lastFound s key ≡ r → settingAs s (memberSetting s r) ≡ lastDeclares (lastValueIn key (members s))
-unfolding memberSetting lastDeclares valueDeclares
-member-says s key found.NotADictionary e = rw (last-malformed s key (lastFound s key) refl e) (unfold settingAs pick in refl)
-member-says s key found.Absent e = rw (last-absent s key (lastFound s key) refl e) (unfold settingAs pick in refl)
-member-says s key (found.Item m) e =
-    rw (last-item s key (lastFound s key) refl m e)
-    (lone-says s (itemAs s (m .item)) (meaningOf (itemAs s (m .item))) (declaredBy s (cursor.Item (m .item))) (unfold settingAs itemsAt allowlistOf pick in refl))
-member-says s key (found.List m) e = rw (last-list s key (lastFound s key) refl m e) (unfold settingAs itemsAt allowlistOf pick in refl)
+pub last-value : (v : Value) → lastDeclares (some (some v)) ≡ valueDeclares v
+unfolding lastDeclares
+last-value v = refl
 
-pub settled : (s : List ℕ) (n : ℕ) → settingAs s (settingOf s n) ≡ declares s n
-unfolding settingOf declares
-settled s n = member-says s (nameOf n) (lastFound s (nameOf n)) refl
+pub last-none : lastDeclares (some none) ≡ none
+unfolding lastDeclares
+last-none = refl
 
-settings-at : (s : List ℕ) (n k i : ℕ) (d : Setting) → i < k → getD (settingsFrom s n k) i d ≡ settingOf s (n + i)
-unfolding settingsFrom
-settings-at s n zero i d h = absurd (omega arith)
-settings-at s n (suc k) zero d h = rw (add-zero n)
-settings-at s n (suc k) (suc i) d h = settings-at s (suc n) k i d (omega arith) ∙ ap (settingOf s) (suc-add n i ∙ sym (add-suc n i))
+pub last-malformed : lastDeclares none ≡ none
+unfolding lastDeclares
+last-malformed = refl
 
--- the same of what `settle` answers, feature by feature
-pub settled-at : (s : List ℕ) (r : Settings) (n : ℕ) (d : Setting) → IsSettled s r → n < featureCount → settingAs s (getD (r .features) n d) ≡ declares s n
-settled-at s r n d h g = rw (h .features, settings-at s 0 featureCount n d g, zero-add n) (settled s n)
+pub value-one : (x : Item) → valueDeclares (one x) ≡ loneDeclares (itemMeaning x)
+unfolding valueDeclares
+value-one x = refl
 
--- what `admits` answers, told whether the origin is the document's own, is whether the list admits it
-pub some-allows : (l : Allowlist) (own o : Origin) → someAdmits (some l) (sameOrigin own o) o ≡ some (allows l own o)
-unfolding someAdmits
-some-allows l own o = refl
+pub value-many : (xs : List Item) → valueDeclares (many xs) ≡ some (itemsList xs)
+unfolding valueDeclares
+value-many xs = refl
 
-pub none-allows : (mine : Bool) (o : Origin) → someAdmits none mine o ≡ none
-unfolding someAdmits
-none-allows mine o = refl
+-- a lone item is ignored, or declares what a list of it alone would
+pub data Lone (m : Meaning) : Option Allowlist → Type 0 where
+  ignored : m ≡ nothing → Lone m none
+  counted : Lone m (some (allowlistOf (m ∷ [])))
 
--- the items of a cursor one after the other: what `item_at` answers stands for them
-list-next : (s : List ℕ) (c : ℕ) (r : ListItem) → cursorAt s c ≡ r → itemsIn s (listItem r) ≡ itemsFrom s c
-unfolding listItem itemsIn itemsAt
-list-next s c (list.Item f) e = sym (items-item s c (cursorAt s c) refl f e)
-list-next s c list.End e = sym (items-end s c (cursorAt s c) refl e)
+pub lone-cases : (m : Meaning) → Lone m (loneDeclares m)
+unfolding loneDeclares
+lone-cases star = counted
+lone-cases self = counted
+lone-cases src = counted
+lone-cases (source e) = counted
+lone-cases nothing = ignored refl
 
-pub items-next : (s : List ℕ) (c : Cursor) → itemsIn s (itemAt s c) ≡ itemsAt s c
-unfolding itemAt itemsIn itemsAt
-items-next s cursor.End = refl
-items-next s (cursor.Item r) = refl
-items-next s (cursor.List c) = list-next s c (cursorAt s c) refl
+-- a header that is no dictionary is malformed
+pub malformed-is : (s : List ℕ) (b : Bool) → b ≡ isSome (members s) → not b ≡ isMalformed s
+unfolding isMalformed
+malformed-is s b h = rw h
 
--- what a list without `*` admits, by its parts
-pub listed-allows : (b : Bool) (es : List SourceExpression) (own o : Origin) → allows (listed b es) own o ≡ b && sameOrigin own o || anyAdmits es o
-unfolding listAdmits
-listed-allows b es own o = refl
-
-pub any-nil : (o : Origin) → anyAdmits [] o ≡ false
-unfolding anyAdmits
-any-nil o = refl
-
-pub any-cons : (e : SourceExpression) (es : List SourceExpression) (o : Origin) → anyAdmits (e ∷ es) o ≡ admits e o || anyAdmits es o
-unfolding anyAdmits
-any-cons e es o = refl
-
--- `*` admits every origin
-pub all-allows : (own o : Origin) → allows all own o ≡ true
-unfolding listAdmits
-all-allows own o = refl
-
--- no expression admits an opaque origin: a list without `*` admits one only by `self`, and a fresh one never
-sources-opaque : (es : List SourceExpression) (n : ℕ) → anyAdmits es (opaque n) ≡ false
-unfolding anyAdmits
-sources-opaque [] n = refl
-sources-opaque (e ∷ es) n = rw (admits-opaque e n) (sources-opaque es n)
-
-sources-fresh : (es : List SourceExpression) → anyAdmits es fresh ≡ false
-unfolding anyAdmits
-sources-fresh [] = refl
-sources-fresh (e ∷ es) = rw (admits-fresh e) (sources-fresh es)
-
-pub listed-opaque : (b : Bool) (es : List SourceExpression) (own : Origin) (n : ℕ) → allows (listed b es) own (opaque n) ≡ b && sameOrigin own (opaque n)
-unfolding listAdmits
-listed-opaque b es own n = rw (sources-opaque es n) (or-false (b && sameOrigin own (opaque n)))
-
-pub listed-fresh : (b : Bool) (es : List SourceExpression) (own : Origin) → allows (listed b es) own fresh ≡ false
-unfolding listAdmits
-listed-fresh b es own = rw (sources-fresh es, fresh-right own) (or-false (b && false) ∙ and-false b)
-
--- a list with `*` is `*`
-pub star-all : (xs : List Item) → hasStar xs ≡ true → allowlistOf xs ≡ all
-unfolding allowlistOf allowlist pick
-star-all xs e = rw e
+pub members-good : (s : List ℕ) (ms : List Plain) → members s ≡ some ms → isMalformed s ≡ false
+unfolding isMalformed
+members-good s ms e = rw e (unfold isSome in refl)
 
 -- the empty header is a dictionary that declares nothing
 pub empty-declares : (n : ℕ) → declares [] n ≡ none
@@ -140,108 +81,65 @@ unfolding declares lastDeclares
 empty-declares n = rw (empty-members, last-of-empty (nameOf n))
 
 pub empty-good : isMalformed [] ≡ false
-unfolding isMalformed
-empty-good = rw empty-members (unfold isSome in refl)
+empty-good = members-good [] [] empty-members
 
 -- a malformed header declares nothing
 pub malformed-declares : (s : List ℕ) (n : ℕ) → isMalformed s ≡ true → declares s n ≡ none
-unfolding isMalformed declares
-malformed-declares s n e = go (members s) e
+unfolding declares
+malformed-declares s n e = go (members s) refl
   where
-    go : (d : Option (List Plain)) → not (isSome d) ≡ true → lastDeclares (lastValueIn (nameOf n) d) ≡ none
-    go = unfold isSome lastDeclares in (elim [ some ms ↦ λ f. clash cc | none ↦ λ f. rw (last-of-none (nameOf n)) ])
+    go : (d : Option (List Plain)) → members s ≡ d → lastDeclares (lastValueIn (nameOf n) d) ≡ none
+    go (some ms) f = let g : isMalformed s ≡ false = members-good s ms f in clash cc
+    go none f = rw (last-of-none (nameOf n)) last-malformed
 
--- what one item admits, and a list by its items; `mine`: the origin is the document's own
-itemAdmits : Meaning → Bool → Origin → Bool
-itemAdmits m mine o = isStar m || isSelf m && mine || anyAdmits (withSource m []) o
+-- whether what is declared admits an origin
+pub declared-some : (l : Allowlist) (own o : Origin) → declaredAdmits (some l) own o ≡ some (listAdmits l (sameOrigin own o) false o)
+unfolding declaredAdmits
+declared-some l own o = some-admits l (sameOrigin own o) false o
 
-anyItem : List Item → Bool → Origin → Bool
-anyItem [] mine o = false
-anyItem (x ∷ xs) mine o = itemAdmits (meaningOf x) mine o || anyItem xs mine o
+pub declared-none : (own o : Origin) → declaredAdmits none own o ≡ none
+unfolding declaredAdmits
+declared-none own o = none-admits (sameOrigin own o) false o
 
-spread : List Item → Bool → Origin → Bool
-spread xs mine o = hasStar xs || hasSelf xs && mine || anyAdmits (sourcesOf xs) o
+-- the answer that the code gets, told whether the origin is the document's own
+pub declared-told : (d : Option Allowlist) (mine : Bool) (own o : Origin) → mine ≡ sameOrigin own o → someAdmits d mine false o ≡ declaredAdmits d own o
+unfolding declaredAdmits
+declared-told d mine own o e = ap (λ (b : Bool). someAdmits d b false o) e
 
-list-spread : (xs : List Item) (mine : Bool) (o : Origin) → listAdmits (allowlistOf xs) mine o ≡ spread xs mine o
-unfolding allowlistOf allowlist spread
-list-spread xs mine o = go (hasStar xs)
-  where
-    go : (b : Bool) → listAdmits (pick b all (listed (hasSelf xs) (sourcesOf xs))) mine o ≡ b || hasSelf xs && mine || anyAdmits (sourcesOf xs) o
-    go true = unfold pick listAdmits in refl
-    go false = unfold pick listAdmits in refl
+-- only `*` admits a fresh origin, or an opaque one that isn't the document's own
+pub declared-fresh : (l : Allowlist) (own : Origin) → declaredAdmits (some l) own fresh ≡ some true → l ≡ all
+declared-fresh l own e =
+    let f : some (listAdmits l (sameOrigin own fresh) false fresh) ≡ some true = sym (declared-some l own fresh) ∙ e in
+    let g : listAdmits l (sameOrigin own fresh) false fresh ≡ true = cc in
+    fresh-all l (rw (fresh-right own) at g)
 
-bools-self : (a b c s : Bool) → a || s || c ≡ s || false || (a || b && s || c)
-bools-self true b c true = refl
-bools-self true b c false = refl
-bools-self false b c true = refl
-bools-self false true c false = refl
-bools-self false false c false = refl
-
-bools-source : (d y c : Bool) → d || (y || c) ≡ y || false || (d || c)
-bools-source true true c = refl
-bools-source true false c = refl
-bools-source false true c = refl
-bools-source false false c = refl
-
-spread-cons : (m : Meaning) (a b mine : Bool) (es : List SourceExpression) (o : Origin) → isStar m || a || (isSelf m || b) && mine || anyAdmits (withSource m es) o ≡ itemAdmits m mine o || (a || b && mine || anyAdmits es o)
-unfolding itemAdmits withSource anyAdmits
-spread-cons star a b mine es o = refl
-spread-cons self a b mine es o = bools-self a b (anyAdmits es o) mine
-spread-cons (source y) a b mine es o = bools-source (a || b && mine) (admits y o) (anyAdmits es o)
-spread-cons nothing a b mine es o = refl
-
-spread-items : (xs : List Item) (mine : Bool) (o : Origin) → spread xs mine o ≡ anyItem xs mine o
-unfolding spread anyItem hasStar hasSelf sourcesOf
-spread-items [] mine o = unfold anyAdmits in refl
-spread-items (x ∷ xs) mine o =
-    spread-cons (meaningOf x) (hasStar xs) (hasSelf xs) mine (sourcesOf xs) o ∙ ap (λ (b : Bool). itemAdmits (meaningOf x) mine o || b) (spread-items xs mine o)
-
-list-items : (xs : List Item) (mine : Bool) (o : Origin) → listAdmits (allowlistOf xs) mine o ≡ anyItem xs mine o
-list-items xs mine o = list-spread xs mine o ∙ spread-items xs mine o
+pub declared-opaque : (l : Allowlist) (own : Origin) (n : ℕ) → sameOrigin own (opaque n) ≡ false → declaredAdmits (some l) own (opaque n) ≡ some true → l ≡ all
+declared-opaque l own n h e =
+    let f : some (listAdmits l (sameOrigin own (opaque n)) false (opaque n)) ≡ some true = sym (declared-some l own (opaque n)) ∙ e in
+    let g : listAdmits l (sameOrigin own (opaque n)) false (opaque n) ≡ true = cc in
+    opaque-all l n (rw h at g)
 
 -- one item more admits at least as much
-or-more : (a b c : Bool) → (b ≡ true → c ≡ true) → a || b ≡ true → a || c ≡ true
-or-more true b c f e = refl
-or-more false b c f e = f e
+map-append : (f : Item → Meaning) (xs ys : List Item) → map f (xs ++ ys) ≡ map f xs ++ map f ys
+map-append f [] ys = refl
+map-append f (x ∷ xs) ys = ap (λ (l : List Meaning). f x ∷ l) (map-append f xs ys)
 
-or-on : (a b : Bool) → b ≡ true → a || b ≡ true
-or-on true b e = refl
-or-on false b e = e
-
-item-more : (front back : List Item) (x : Item) (mine : Bool) (o : Origin) → anyItem (front ++ back) mine o ≡ true → anyItem (front ++ (x ∷ back)) mine o ≡ true
-unfolding anyItem
-item-more [] back x mine o e = or-on (itemAdmits (meaningOf x) mine o) (anyItem back mine o) e
-item-more (y ∷ front) back x mine o e =
-    or-more (itemAdmits (meaningOf y) mine o) (anyItem (front ++ back) mine o) (anyItem (front ++ (x ∷ back)) mine o) (λ f. item-more front back x mine o f) e
-
-list-wider : (front back : List Item) (x : Item) → Wider (allowlistOf (front ++ back)) (allowlistOf (front ++ (x ∷ back)))
+list-wider : (front back : List Item) (x : Item) → Wider (itemsList (front ++ back)) (itemsList (front ++ (x ∷ back)))
 list-wider front back x =
-    record { keeps = λ own o e. list-items (front ++ (x ∷ back)) (sameOrigin own o) o ∙ item-more front back x (sameOrigin own o) o (sym (list-items (front ++ back) (sameOrigin own o) o) ∙ e) }
+    rw (map-append itemMeaning front back, map-append itemMeaning front (x ∷ back)) (meaning-wider (map itemMeaning front) (map itemMeaning back) (itemMeaning x))
 
--- what is the same is as wide
-pub more-self : (d : Option Allowlist) → DeclaresMore d d
-more-self (some l) = both (record { keeps = λ own o e. e })
-more-self none = neither
-
-grown-more : {v w : Option Value} → Grown v w → DeclaresMore (lastDeclares (some v)) (lastDeclares (some w))
+grown-wide : {v w : Option Value} → Grown v w → AsWide (lastDeclares (some v)) (lastDeclares (some w))
 unfolding lastDeclares valueDeclares
-grown-more (same {v = v}) = more-self (lastDeclares (some v))
-grown-more (grown front back x) = both (list-wider front back x)
+grown-wide (same {v = v}) = as-wide-self (lastDeclares (some v))
+grown-wide (grown front back x) = both (list-wider front back x)
 
 -- with one item more in a header, each feature is declared in both or in neither, and no list admits less
-pub item-declares-more : (s t : List ℕ) → OneItemMore s t → (n : ℕ) → DeclaresMore (declares s n) (declares t n)
+pub item-as-wide : (s t : List ℕ) → OneItemMore s t → (n : ℕ) → AsWide (declares s n) (declares t n)
 unfolding declares
-item-declares-more s t h n =
+item-as-wide s t h n =
     let g = last-grown s t h (nameOf n) in
-    rw (g .is-first, g .is-second) (grown-more (g .grows))
-
--- with more declared, a list that admits an origin still does
-pub more-admits : {a b : Option Allowlist} (own o : Origin) → DeclaresMore a b → someAdmits a (sameOrigin own o) o ≡ some true → someAdmits b (sameOrigin own o) o ≡ some true
-unfolding someAdmits
-more-admits own o neither e = e
-more-admits own o (both {l = l} w) e = let f : allows l own o ≡ true = cc in ap some (w .keeps own o f)
+    rw (g .is-first, g .is-second) (grown-wide (g .grows))
 
 -- and neither header is malformed
 pub item-good : (s t : List ℕ) → OneItemMore s t → (isMalformed s ≡ false) × (isMalformed t ≡ false)
-unfolding isMalformed isSome
-item-good s t h = (rw (h .first), rw (h .second))
+item-good s t h = (members-good s _ (h .first), members-good t _ (h .second))

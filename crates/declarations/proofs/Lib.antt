@@ -1,5 +1,3 @@
 pub mod Meanings
-pub mod Walks
-pub mod Kept
 pub mod Laws
-pub mod Back
+pub mod Written
