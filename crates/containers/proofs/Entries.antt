@@ -17,7 +17,7 @@ use Rattle.ascii.specs.Texts.{partOf}
 use Rattle.ascii.proofs.Reading.{run-part}
 use Rattle.ascii.proofs.Texts.{part-in}
 use Rattle.features.specs.Features.{featureOf}
-use Rattle.features.specs.Answers.{lookupAs}
+use Rattle.features.specs.Answers.{lookupIn}
 use Rattle.features.specs.declared.Lookup.{Lookup}
 use Rattle.features.specs.declared.Lookup.the-variants.{Known, Unknown}
 use Rattle.containers.specs.Attributes.{cutAt, words, isSemicolon, isThe, isFor}
@@ -30,8 +30,8 @@ use Rattle.containers.specs.declared.ContainerPolicy.the-variants as pol
 use Rattle.containers.proofs.Words.{restCut, cut-run, words-none, first-word}
 
 -- a piece, by what its first word is found to be
-module _ (s : List ℕ) (from to n : ℕ) (found : EntryFound) (p : List ℕ) (h : from ≤ to) (g : to ≤ length s) (part : p ≡ partOf s from to) (a e : ℕ) (start : drop a p ≡ past (inClass White) (drop 0 p)) (in-a : a ≤ length p) (rest : drop e p ≡ past (inClass Word) (drop a p)) (lo : min a (length p) ≤ e) (hi : e ≤ length p) (r : Lookup) (is : lookupAs r ≡ featureOf (take (e - a) (drop a p))) where
-  is-for : isFor n (words p) ≡ isThe n (lookupAs r)
+module _ (s : List ℕ) (from to n : ℕ) (found : EntryFound) (p : List ℕ) (h : from ≤ to) (g : to ≤ length s) (part : p ≡ partOf s from to) (a e : ℕ) (start : drop a p ≡ past (inClass White) (drop 0 p)) (in-a : a ≤ length p) (rest : drop e p ≡ past (inClass Word) (drop a p)) (lo : min a (length p) ≤ e) (hi : e ≤ length p) (r : Lookup) (is : lookupIn r ≡ featureOf (take (e - a) (drop a p))) where
+  is-for : isFor n (words p) ≡ isThe n (lookupIn r)
   is-for =
       let k : take (e - a) (drop a p) ≡ runOf isWordByte (drop a p) = run-part isWordByte p a e in-a rest lo hi in
       rw (first-word n p, is, k, start)

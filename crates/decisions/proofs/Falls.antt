@@ -4,7 +4,7 @@ use mathlib.Core.List.{List}
 use mathlib.Core.Bool.{Bool, true, false}
 use mathlib.Core.Option.{some, none}
 use Prim.Native.Nat.{ℕ}
-use Rattle.features.specs.Answers.{defaultAs}
+use Rattle.features.specs.Answers.{defaultIn}
 use Rattle.features.specs.declared.DefaultOf.{DefaultOf}
 use Rattle.features.specs.declared.DefaultOf.the-variants as default
 use Rattle.origins.specs.Origins.{Origin}
@@ -37,15 +37,15 @@ module _ (b : Bool) where
 
 -- the default list
 module _ (d : DefaultOf) (same : Bool) where
-  pub default-all : d ≡ default.All → enabled ≡ byDefault (defaultAs d) same
+  pub default-all : d ≡ default.All → enabled ≡ byDefault (defaultIn d) same
   unfolding byDefault
   default-all k = rw k
 
-  pub default-self : (r : Answer) → d ≡ default.SelfOnly → decisionIn r ≡ decided same → decisionIn r ≡ byDefault (defaultAs d) same
+  pub default-self : (r : Answer) → d ≡ default.SelfOnly → decisionIn r ≡ decided same → decisionIn r ≡ byDefault (defaultIn d) same
   unfolding byDefault
   default-self r k is = rw k is
 
-  pub default-none : (r : Answer) → d ≡ default.NoSuchFeature → decisionIn r ≡ decided same → decisionIn r ≡ byDefault (defaultAs d) same
+  pub default-none : (r : Answer) → d ≡ default.NoSuchFeature → decisionIn r ≡ decided same → decisionIn r ≡ byDefault (defaultIn d) same
   unfolding byDefault
   default-none r k is = rw k is
 
@@ -73,19 +73,19 @@ pub ruleset values = (value-disabled, value-undeclared, value-admitted, value-no
 
 -- question
 module _ (i : Answer) (a : Admission) (d : DefaultOf) (same : Bool) where
-  pub question-disabled : i ≡ answer.Disabled → disabled ≡ questionBy (decisionIn i) (admissionIn a) (defaultAs d) same
+  pub question-disabled : i ≡ answer.Disabled → disabled ≡ questionBy (decisionIn i) (admissionIn a) (defaultIn d) same
   unfolding questionBy unlessDisabled
   question-disabled k = rw k
 
-  pub question-undeclared : (r : Answer) → i ≡ answer.Enabled → a ≡ admission.Undeclared → decisionIn r ≡ byDefault (defaultAs d) same → decisionIn r ≡ questionBy (decisionIn i) (admissionIn a) (defaultAs d) same
+  pub question-undeclared : (r : Answer) → i ≡ answer.Enabled → a ≡ admission.Undeclared → decisionIn r ≡ byDefault (defaultIn d) same → decisionIn r ≡ questionBy (decisionIn i) (admissionIn a) (defaultIn d) same
   unfolding questionBy unlessDisabled byList
   question-undeclared r k l is = rw (k, l) is
 
-  pub question-admitted : i ≡ answer.Enabled → a ≡ admission.Admitted → enabled ≡ questionBy (decisionIn i) (admissionIn a) (defaultAs d) same
+  pub question-admitted : i ≡ answer.Enabled → a ≡ admission.Admitted → enabled ≡ questionBy (decisionIn i) (admissionIn a) (defaultIn d) same
   unfolding questionBy unlessDisabled byList decided
   question-admitted k l = rw (k, l)
 
-  pub question-not-admitted : i ≡ answer.Enabled → a ≡ admission.NotAdmitted → disabled ≡ questionBy (decisionIn i) (admissionIn a) (defaultAs d) same
+  pub question-not-admitted : i ≡ answer.Enabled → a ≡ admission.NotAdmitted → disabled ≡ questionBy (decisionIn i) (admissionIn a) (defaultIn d) same
   unfolding questionBy unlessDisabled byList decided
   question-not-admitted k l = rw (k, l)
 
@@ -93,23 +93,23 @@ pub ruleset questions = (question-disabled, question-undeclared, question-admitt
 
 -- inherited
 module _ (i j : Answer) (a : AttributeAnswer) (d : DefaultOf) (same : Bool) where
-  pub inherited-own : i ≡ answer.Disabled → disabled ≡ inheritedBy (decisionIn i) (decisionIn j) (attributeIn a) (defaultAs d) same
+  pub inherited-own : i ≡ answer.Disabled → disabled ≡ inheritedBy (decisionIn i) (decisionIn j) (attributeIn a) (defaultIn d) same
   unfolding inheritedBy unlessDisabled
   inherited-own k = rw k
 
-  pub inherited-arriving : i ≡ answer.Enabled → j ≡ answer.Disabled → disabled ≡ inheritedBy (decisionIn i) (decisionIn j) (attributeIn a) (defaultAs d) same
+  pub inherited-arriving : i ≡ answer.Enabled → j ≡ answer.Disabled → disabled ≡ inheritedBy (decisionIn i) (decisionIn j) (attributeIn a) (defaultIn d) same
   unfolding inheritedBy unlessDisabled
   inherited-arriving k l = rw (k, l)
 
-  pub inherited-default : (r : Answer) → i ≡ answer.Enabled → j ≡ answer.Enabled → a ≡ attribute.None → decisionIn r ≡ byDefault (defaultAs d) same → decisionIn r ≡ inheritedBy (decisionIn i) (decisionIn j) (attributeIn a) (defaultAs d) same
+  pub inherited-default : (r : Answer) → i ≡ answer.Enabled → j ≡ answer.Enabled → a ≡ attribute.None → decisionIn r ≡ byDefault (defaultIn d) same → decisionIn r ≡ inheritedBy (decisionIn i) (decisionIn j) (attributeIn a) (defaultIn d) same
   unfolding inheritedBy unlessDisabled byList
   inherited-default r k l m is = rw (k, l, m) is
 
-  pub inherited-admitted : i ≡ answer.Enabled → j ≡ answer.Enabled → a ≡ attribute.Admitted → enabled ≡ inheritedBy (decisionIn i) (decisionIn j) (attributeIn a) (defaultAs d) same
+  pub inherited-admitted : i ≡ answer.Enabled → j ≡ answer.Enabled → a ≡ attribute.Admitted → enabled ≡ inheritedBy (decisionIn i) (decisionIn j) (attributeIn a) (defaultIn d) same
   unfolding inheritedBy unlessDisabled byList decided
   inherited-admitted k l m = rw (k, l, m)
 
-  pub inherited-not-admitted : i ≡ answer.Enabled → j ≡ answer.Enabled → a ≡ attribute.NotAdmitted → disabled ≡ inheritedBy (decisionIn i) (decisionIn j) (attributeIn a) (defaultAs d) same
+  pub inherited-not-admitted : i ≡ answer.Enabled → j ≡ answer.Enabled → a ≡ attribute.NotAdmitted → disabled ≡ inheritedBy (decisionIn i) (decisionIn j) (attributeIn a) (defaultIn d) same
   unfolding inheritedBy unlessDisabled byList decided
   inherited-not-admitted k l m = rw (k, l, m)
 

@@ -14,7 +14,7 @@ use Rattle.ascii.proofs.Clash.{clash}
 use Rattle.ascii.proofs.Bytes.{and-false}
 use Rattle.features.specs.Features.{Default, featureCount, defaultOf}
 use Rattle.features.specs.Features.Default.{star, self}
-use Rattle.features.specs.Answers.{defaultAs}
+use Rattle.features.specs.Answers.{defaultIn}
 use Rattle.features.specs.declared.DefaultOf.{DefaultOf}
 use Rattle.origins.specs.Origins.{Origin}
 use Rattle.origins.specs.Origins.Origin.{tuple, opaque, fresh}
@@ -65,20 +65,20 @@ module _ (s t : List ℕ) (d : Setting) (own : Origin) (o : OriginRange) (same :
   value-says is = is ∙ ap (valueBy (decisionIn i)) answered
 
   -- and that of `question` is *Question*
-  pub question-says : (default : DefaultOf) → decisionIn r ≡ questionBy (decisionIn i) (admissionIn a) (defaultAs default) same → decisionIn r ≡ question (decisionIn i) (settingAs s d) (defaultAs default) own (originIn t o)
+  pub question-says : (default : DefaultOf) → decisionIn r ≡ questionBy (decisionIn i) (admissionIn a) (defaultIn default) same → decisionIn r ≡ question (decisionIn i) (settingAs s d) (defaultIn default) own (originIn t o)
   unfolding question
   question-says default is =
       is
-      ∙ ap (λ (x : Option Bool). questionBy (decisionIn i) x (defaultAs default) same) answered
-      ∙ ap (questionBy (decisionIn i) (someAdmits (settingAs s d) (sameOrigin own (originIn t o)) (originIn t o)) (defaultAs default)) is-same
+      ∙ ap (λ (x : Option Bool). questionBy (decisionIn i) x (defaultIn default) same) answered
+      ∙ ap (questionBy (decisionIn i) (someAdmits (settingAs s d) (sameOrigin own (originIn t o)) (originIn t o)) (defaultIn default)) is-same
 
 -- the answer of `inherited`, told what `attribute_admits` answered for a container policy, is *Inherited* of the list that the policy says
 module _ (s t : List ℕ) (p : ContainerPolicy) (container declared : Origin) (o : OriginRange) (container-same declared-same : Bool) (x : AttributeAnswer)
     (is-container : container-same ≡ sameOrigin container (originIn t o))
     (is-declared : declared-same ≡ sameOrigin declared (originIn t o))
     (admitted : attributeIn x ≡ attributeAdmits (policyIn s p) container-same declared-same (originIn t o)) where
-  pub inherited-says : (valueOwn valueArriving r : Answer) (default : DefaultOf) → decisionIn r ≡ inheritedBy (decisionIn valueOwn) (decisionIn valueArriving) (attributeIn x) (defaultAs default) container-same
-      → decisionIn r ≡ inheritedFramed (decisionIn valueOwn) (decisionIn valueArriving) (policyIn s p) (defaultAs default) container declared (originIn t o)
+  pub inherited-says : (valueOwn valueArriving r : Answer) (default : DefaultOf) → decisionIn r ≡ inheritedBy (decisionIn valueOwn) (decisionIn valueArriving) (attributeIn x) (defaultIn default) container-same
+      → decisionIn r ≡ inheritedFramed (decisionIn valueOwn) (decisionIn valueArriving) (policyIn s p) (defaultIn default) container declared (originIn t o)
   unfolding inheritedFramed
   inherited-says valueOwn valueArriving r default is = rw (← is-container, ← is-declared, ← admitted) is
 

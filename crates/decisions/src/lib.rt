@@ -1,6 +1,6 @@
 // Value, inherited and question of a feature, told what the lists answer; and the decisions of the seventeen features as one number.
 ghost use mathlib.Core.Path.{_≡_};
-ghost use Rattle.features.specs.Answers.{defaultAs};
+ghost use Rattle.features.specs.Answers.{defaultIn};
 ghost use Rattle.origins.specs.Answers.{originIn};
 ghost use Rattle.containers.specs.Answers.{policyIn};
 ghost use Rattle.decisions.specs.Decisions.{decided, byDefault, valueBy, inheritedBy, questionBy};
@@ -61,7 +61,7 @@ fn decided(yes: bool) -> Decision
 
 // By the default list; `same`: the origin is the own one.
 fn by_default(default: DefaultOf, same: bool) -> Decision
-    ensures { λ r. ⌜ decisionIn r ≡ byDefault (defaultAs default) same ⌝ }
+    ensures { λ r. ⌜ decisionIn r ≡ byDefault (defaultIn default) same ⌝ }
 {
     match default {
         DefaultOf::All => Decision::Enabled,
@@ -96,7 +96,7 @@ pub struct Framed {
 
 // What a framed document inherits for a feature.
 pub fn inherited(f: Framed) -> Decision
-    ensures { λ r. ⌜ decisionIn r ≡ inheritedBy (decisionIn (f .«value_own»)) (decisionIn (f .«value_arriving»)) (attributeIn (f .allowed)) (defaultAs (f .default)) (f .same) ⌝ }
+    ensures { λ r. ⌜ decisionIn r ≡ inheritedBy (decisionIn (f .«value_own»)) (decisionIn (f .«value_arriving»)) (attributeIn (f .allowed)) (defaultIn (f .default)) (f .same) ⌝ }
 {
     let own = f.value_own;
     let arriving = f.value_arriving;
@@ -122,7 +122,7 @@ pub fn question(
     default: DefaultOf,
     same: bool,
 ) -> Decision
-    ensures { λ r. ⌜ decisionIn r ≡ questionBy (decisionIn inherited) (admissionIn declared) (defaultAs default) same ⌝ }
+    ensures { λ r. ⌜ decisionIn r ≡ questionBy (decisionIn inherited) (admissionIn declared) (defaultIn default) same ⌝ }
 {
     match inherited {
         Decision::Disabled => Decision::Disabled,

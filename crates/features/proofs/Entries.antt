@@ -14,7 +14,7 @@ use Rattle.ascii.specs.Texts.{sameBytes}
 use Rattle.features.specs.Features.{Row, features, featureCount, rowName, rowDefault, names, nameOf, defaultOf, featureOf, placeFrom}
 use Rattle.features.specs.Features.Default.{star, self}
 use Rattle.features.specs.Features.Row.{feature}
-use Rattle.features.specs.Answers.{entryAs, listAs, padded, IsEntry, IsName}
+use Rattle.features.specs.Answers.{entryAs, listIn, padded, IsEntry, IsName}
 use Rattle.features.specs.declared.DefaultAllowlist.{DefaultAllowlist}
 use Rattle.features.specs.declared.DefaultAllowlist.the-variants.{All, SelfOnly}
 use Rattle.features.specs.declared.Feature.{Feature}
@@ -36,10 +36,10 @@ entry-at t d n e h =
     (row-entry n (getD features n noRow) (map-at rowName noRow [] features n g) (map-some rowDefault noRow features n g))
 
 -- an entry's default list, by its case
-pub default-star : (d : DefaultAllowlist) (n : ℕ) → d ≡ All → some (listAs d) ≡ defaultOf n → some star ≡ defaultOf n
+pub default-star : (d : DefaultAllowlist) (n : ℕ) → d ≡ All → some (listIn d) ≡ defaultOf n → some star ≡ defaultOf n
 default-star d n t e = rw t at e
 
-pub default-self : (d : DefaultAllowlist) (n : ℕ) → d ≡ SelfOnly → some (listAs d) ≡ defaultOf n → some self ≡ defaultOf n
+pub default-self : (d : DefaultAllowlist) (n : ℕ) → d ≡ SelfOnly → some (listIn d) ≡ defaultOf n → some self ≡ defaultOf n
 default-self d n t e = rw t at e
 
 -- the bytes and the length of a name pin all that is asked of it

@@ -12,10 +12,10 @@ use borrow.Author.Tests.{leb-true, ltb-true, ltb-false}
 use Rattle.ascii.proofs.Clash.{clash}
 use Rattle.ascii.specs.Bytes.{pick, isKeyStart, isKeyByte}
 use Rattle.ascii.specs.Reading.{headOf, headIs, runOf, past}
-use Rattle.ascii.specs.Texts.{every, sameBytes}
+use Rattle.ascii.specs.Texts.{every, sameBy, sameBytes}
 use Rattle.ascii.proofs.Texts.{every-at, every-run, every-past, bytes-same}
 use Rattle.ascii.proofs.Bytes.{and-left, and-right}
-use Rattle.features.specs.Features.{Default, features, featureCount, rowDefault, names, nameOf, defaultOf, featureOf, before, ascending, isKey}
+use Rattle.features.specs.Features.{Default, features, featureCount, rowDefault, names, nameOf, defaultOf, placeFrom, featureOf, precedes, ascending, isKey}
 use Rattle.features.specs.Answers.{nameBytes, numberIn}
 use Rattle.features.specs.declared.Lookup.{Lookup}
 use Rattle.features.specs.declared.Lookup.the-variants.{Known}
@@ -28,11 +28,11 @@ count = refl
 
 -- the names ascend
 pub names-ascend : ascending names ≡ true
-unfolding features names ascending every before pick
+unfolding features names ascending every precedes pick
 names-ascend = refl
 
 -- a feature's name stands before that of each later one
-pub name-order : (i j : ℕ) → i < j → j < featureCount → before (nameOf i) (nameOf j) ≡ true
+pub name-order : (i j : ℕ) → i < j → j < featureCount → precedes (nameOf i) (nameOf j) ≡ true
 unfolding nameOf
 name-order i j h g = ascending-at names i j names-ascend h (omega (arith, count))
 
@@ -135,6 +135,11 @@ pub name-past : (n : ℕ) (rest : List ℕ) → n < featureCount → isKeyByte (
 name-past n rest h e = every-past isKeyByte (nameOf n) rest (name-bytes n h) e
 
 -- the number that a lookup answers, as omega reads it
+-- an empty word is no name
+pub no-feature : featureOf [] ≡ none
+unfolding featureOf placeFrom features names sameBy pick
+no-feature = refl
+
 pub number-known : (r : Lookup) (n : ℕ) → r ≡ Known n → numberIn r ≡ n
 number-known r n e = rw e
 

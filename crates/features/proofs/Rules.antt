@@ -15,24 +15,24 @@ use Rattle.ascii.specs.Texts.{every, sameBytes}
 use Rattle.ascii.specs.Reading.{headOf, runOf, past}
 use Rattle.ascii.proofs.Texts.{every-at, bytes-same, same-bytes}
 use Rattle.ascii.proofs.Bytes.{and-left, and-right}
-use Rattle.features.specs.Features.{Row, features, featureCount, before, ascending, placeFrom}
+use Rattle.features.specs.Features.{Row, features, featureCount, precedes, ascending, placeFrom}
 use Rattle.features.specs.Features.Default.{self}
 use Rattle.features.specs.Features.Row.{feature}
 use Rattle.features.specs.Answers.{nameBytes, padded}
 
 -- in an ascending list each stands before each later one
-pub ascending-at : (xs : List (List ℕ)) (i j : ℕ) → ascending xs ≡ true → i < j → j < length xs → before (getD xs i []) (getD xs j []) ≡ true
+pub ascending-at : (xs : List (List ℕ)) (i j : ℕ) → ascending xs ≡ true → i < j → j < length xs → precedes (getD xs i []) (getD xs j []) ≡ true
 unfolding ascending
 ascending-at [] i j e h g = absurd (not-suc-le-zero g)
 ascending-at (x ∷ xs) i zero e h g = absurd (not-suc-le-zero h)
-ascending-at (x ∷ xs) zero (suc j) e h g = every-at (before x) [] xs j (and-left (every (before x) xs) (ascending xs) e) (le-of-suc-le-suc g)
-ascending-at (x ∷ xs) (suc i) (suc j) e h g = ascending-at xs i j (and-right (every (before x) xs) (ascending xs) e) (le-of-suc-le-suc h) (le-of-suc-le-suc g)
+ascending-at (x ∷ xs) zero (suc j) e h g = every-at (precedes x) [] xs j (and-left (every (precedes x) xs) (ascending xs) e) (le-of-suc-le-suc g)
+ascending-at (x ∷ xs) (suc i) (suc j) e h g = ascending-at xs i j (and-right (every (precedes x) xs) (ascending xs) e) (le-of-suc-le-suc h) (le-of-suc-le-suc g)
 
 -- no text stands before itself
-pub not-before : (x : List ℕ) → before x x ≡ false
-unfolding before pick
-not-before [] = refl
-not-before (x ∷ xs) = rw (eq-eqb x x refl) (not-before xs)
+pub not-precedes : (x : List ℕ) → precedes x x ≡ false
+unfolding precedes pick
+not-precedes [] = refl
+not-precedes (x ∷ xs) = rw (eq-eqb x x refl) (not-precedes xs)
 
 -- in an ascending list each is found at its place
 pub found-at : (xs : List (List ℕ)) (k i : ℕ) → ascending xs ≡ true → i < length xs → placeFrom k (getD xs i []) xs ≡ some (k + i)
@@ -41,11 +41,11 @@ found-at [] k i e h = absurd (not-suc-le-zero h)
 found-at (x ∷ xs) k zero e h = rw (same-bytes x, add-zero k)
 found-at (x ∷ xs) k (suc i) e h =
     go (sameBytes (getD xs i []) x) refl
-    (every-at (before x) [] xs i (and-left (every (before x) xs) (ascending xs) e) (le-of-suc-le-suc h))
-    (found-at xs (suc k) i (and-right (every (before x) xs) (ascending xs) e) (le-of-suc-le-suc h))
+    (every-at (precedes x) [] xs i (and-left (every (precedes x) xs) (ascending xs) e) (le-of-suc-le-suc h))
+    (found-at xs (suc k) i (and-right (every (precedes x) xs) (ascending xs) e) (le-of-suc-le-suc h))
   where
-    go : (b : Bool) → sameBytes (getD xs i []) x ≡ b → before x (getD xs i []) ≡ true → placeFrom (suc k) (getD xs i []) xs ≡ some (suc k + i) → pick b (some k) (placeFrom (suc k) (getD xs i []) xs) ≡ some (k + suc i)
-    go true t later rest = absurd (let u : getD xs i [] ≡ x = bytes-same (getD xs i []) x t in clash (cc (not-before x)))
+    go : (b : Bool) → sameBytes (getD xs i []) x ≡ b → precedes x (getD xs i []) ≡ true → placeFrom (suc k) (getD xs i []) xs ≡ some (suc k + i) → pick b (some k) (placeFrom (suc k) (getD xs i []) xs) ≡ some (k + suc i)
+    go true t later rest = absurd (let u : getD xs i [] ≡ x = bytes-same (getD xs i []) x t in clash (cc (not-precedes x)))
     go false t later rest = rw (add-suc k i, ← suc-add k i) rest
 
 -- what is found at a place stands there

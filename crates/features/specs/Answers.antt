@@ -25,29 +25,29 @@ unfoldable pub padded : List ℕ → List ℕ
 padded name = name ++ replicate (nameBytes - length name) 32
 
 -- a default allowlist of the code's table: `*` or `self`
-abbrev pub listAs : DefaultAllowlist → Default
-listAs list.All = star
-listAs list.SelfOnly = self
+abbrev pub listIn : DefaultAllowlist → Default
+listIn list.All = star
+listIn list.SelfOnly = self
 
 -- and the other way round
-abbrev pub listFor : Default → DefaultAllowlist
-listFor star = list.All
-listFor self = list.SelfOnly
+abbrev pub listAs : Default → DefaultAllowlist
+listAs star = list.All
+listAs self = list.SelfOnly
 
 -- the code's entry for a row of document 01's list
 unfoldable pub entryAs : Row → Feature
-entryAs (feature name d) = record { name = padded name; len = length name; default = listFor d }
+entryAs (feature name d) = record { name = padded name; len = length name; default = listAs d }
 
 -- the default list that is answered; none for a "number over 16"
-abbrev pub defaultAs : DefaultOf → Option Default
-defaultAs answer.All = some star
-defaultAs answer.SelfOnly = some self
-defaultAs answer.NoSuchFeature = none
+abbrev pub defaultIn : DefaultOf → Option Default
+defaultIn answer.All = some star
+defaultIn answer.SelfOnly = some self
+defaultIn answer.NoSuchFeature = none
 
 -- the feature's number, if the word is a feature's name
-abbrev pub lookupAs : Lookup → Option ℕ
-lookupAs (Known n) = some n
-lookupAs Unknown = none
+abbrev pub lookupIn : Lookup → Option ℕ
+lookupIn (Known n) = some n
+lookupIn Unknown = none
 
 -- the number that is answered, as a bound
 abbrev pub numberIn : Lookup → ℕ
@@ -56,7 +56,7 @@ numberIn Unknown = 0
 
 -- the answer is the definition's, and its number is a feature's
 pub record IsLookup (word : List ℕ) (r : Lookup) : Type 0 where
-  pub is : lookupAs r ≡ featureOf word
+  pub is : lookupIn r ≡ featureOf word
   pub below : numberIn r < featureCount
 
 -- the name of a number: every byte of the array, and the first `len`, which are the name
@@ -71,4 +71,4 @@ pub record IsName (n : ℕ) (r : Name) : Type 0 where
 pub record IsEntry (n : ℕ) (r : Feature) : Type 0 where
   pub name : r .name ≡ padded (nameOf n)
   pub len : r .len ≡ length (nameOf n)
-  pub default : some (listAs (r .default)) ≡ defaultOf n
+  pub default : some (listIn (r .default)) ≡ defaultOf n

@@ -1,27 +1,33 @@
--- Names looked up.
+-- Names looked up, by computation.
+use Prim.Native.Nat.{ℕ}
+use Prim.Native.String.{String}
 use mathlib.Core.Path.{_≡_, refl}
-use mathlib.Core.Option.{some, none}
-use Rattle.ascii.specs.Bytes.{pick}
+use mathlib.Core.List.{List, [], _∷_}
+use mathlib.Core.Bool.{Bool, true, false}
+use mathlib.Core.Option.{Option, some, none}
+use lib.Dec.{eqb}
 use Rattle.ascii.specs.Literals.{text}
-use Rattle.ascii.specs.Texts.{sameBy}
-use Rattle.features.specs.Features.{features, names, placeFrom, featureOf}
+use Rattle.ascii.specs.Texts.{every}
+use Rattle.features.specs.Features.{featureOf}
+use Rattle.features.specs.Computing.{computing}
 
-camera : featureOf (text "camera") ≡ some 0
-unfolding features names placeFrom featureOf sameBy pick
-camera = refl
+-- a word that is a feature's name, with its number, and one that is none
+pub data Row : Type 0 where
+  is : String → ℕ → Row
+  unknown : String → Row
 
-usb : featureOf (text "usb") ≡ some 16
-unfolding features names placeFrom featureOf sameBy pick
-usb = refl
+abbrev sameNumber : ℕ → Option ℕ → Bool
+sameNumber n (some m) = eqb m n
+sameNumber n none = false
 
-capital : featureOf (text "Camera") ≡ none
-unfolding features names placeFrom featureOf sameBy pick
-capital = refl
+abbrev isNone : Option ℕ → Bool
+isNone (some m) = false
+isNone none = true
 
-empty : featureOf (text "") ≡ none
-unfolding features names placeFrom featureOf sameBy pick
-empty = refl
+abbrev right : Row → Bool
+right (is s n) = sameNumber n (featureOf (text s))
+right (unknown s) = isNone (featureOf (text s))
 
-space-after : featureOf (text "camera ") ≡ none
-unfolding features names placeFrom featureOf sameBy pick
-space-after = refl
+rows-right : every right (is "camera" 0 ∷ is "usb" 16 ∷ unknown "Camera" ∷ unknown "" ∷ unknown "camera " ∷ []) ≡ true
+unfolding computing
+rows-right = refl

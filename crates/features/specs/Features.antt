@@ -72,17 +72,17 @@ placeFrom n word (name ∷ rest) = pick (sameBytes word name) (some n) (placeFro
 unfoldable pub featureOf : List ℕ → Option ℕ
 featureOf word = placeFrom 0 word names
 
--- the order of texts, byte by byte; a text stands before each longer one that it begins
-unfoldable pub before : List ℕ → List ℕ → Bool
-before [] [] = false
-before [] (y ∷ ys) = true
-before (x ∷ xs) [] = false
-before (x ∷ xs) (y ∷ ys) = pick (eqb x y) (before xs ys) (ltb x y)
+-- the order of texts, byte by byte; a text stands precedes each longer one that it begins
+unfoldable pub precedes : List ℕ → List ℕ → Bool
+precedes [] [] = false
+precedes [] (y ∷ ys) = true
+precedes (x ∷ xs) [] = false
+precedes (x ∷ xs) (y ∷ ys) = pick (eqb x y) (precedes xs ys) (ltb x y)
 
--- each stands before all that follow it
+-- each stands precedes all that follow it
 unfoldable pub ascending : List (List ℕ) → Bool
 ascending [] = true
-ascending (x ∷ xs) = every (before x) xs && ascending xs
+ascending (x ∷ xs) = every (precedes x) xs && ascending xs
 
 -- RFC 8941 section 3.1.2: a key is a key start and then key bytes
 unfoldable pub isKey : List ℕ → Bool

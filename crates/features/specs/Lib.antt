@@ -1,3 +1,4 @@
 pub mod Features
 pub mod Answers
+pub mod Computing
 pub mod Examples

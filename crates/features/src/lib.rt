@@ -4,7 +4,7 @@ ghost use mathlib.Core.List.{map};
 ghost use Prim.Native.Nat.{_<_};
 ghost use Rattle.ascii.specs.Texts.{sameBytes};
 ghost use Rattle.features.specs.Features.{featureCount, features, nameOf, defaultOf};
-ghost use Rattle.features.specs.Answers.{entryAs, defaultAs, IsEntry, IsName, IsLookup};
+ghost use Rattle.features.specs.Answers.{entryAs, defaultIn, IsEntry, IsName, IsLookup};
 
 // How many features there are.
 pub const COUNT: usize = 17;
@@ -162,7 +162,7 @@ pub enum DefaultOf {
 
 // The default allowlist of a feature; none for a number over 16.
 pub fn default_of(n: u32) -> DefaultOf
-    ensures { λ r. ⌜ defaultAs r ≡ defaultOf n ⌝ }
+    ensures { λ r. ⌜ defaultIn r ≡ defaultOf n ⌝ }
 {
     let i = n as usize;
     if i < COUNT {
