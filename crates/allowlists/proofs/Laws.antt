@@ -219,6 +219,16 @@ list-cons m ms a b o =
     ∙ cons-spread m ms a b o
     ∙ ap (λ (t : Bool). meaningAdmits m a b o || t) (sym (list-spread (hasStar ms) (hasSelf ms) (hasSrc ms) (sourcesOf ms) a b o))
 
+-- a list of one meaning admits what that admits: the self-origin, the src-origin
+pub alone : (m : Meaning) (a b : Bool) (o : Origin) → listAdmits (allowlistOf (m ∷ [])) a b o ≡ meaningAdmits m a b o
+alone m a b o = list-cons m [] a b o ∙ rw (empty-admits a b o) (or-false (meaningAdmits m a b o))
+
+pub self-alone : (a b : Bool) (o : Origin) → listAdmits (allowlistOf (self ∷ [])) a b o ≡ a
+self-alone a b o = alone self a b o ∙ unfold meaningAdmits in refl
+
+pub src-alone : (a b : Bool) (o : Origin) → listAdmits (allowlistOf (src ∷ [])) a b o ≡ b
+src-alone a b o = alone src a b o ∙ unfold meaningAdmits in refl
+
 -- only `*` admits a fresh origin
 sources-fresh : (es : List SourceExpression) → anyAdmits es fresh ≡ false
 unfolding anyAdmits

@@ -3,7 +3,7 @@ use mathlib.Core.Path.{_≡_, refl, ap, _∙_, sym}
 use Prim.Native.Nat.{ℕ, zero, suc, _+_, _-_, _≤_, _<_}
 use native.Mathlib.Nat.{le-of-suc-le-suc, not-suc-le-zero}
 use mathlib.Core.List.{List, [], _∷_, _++_}
-use mathlib.Core.Bool.{Bool, true, false, _&&_}
+use mathlib.Core.Bool.{Bool, true, false, not, _&&_}
 use native.Mathlib.Numerals.{add-one}
 use lib.ListN.{length, getD, take, drop, drop-of-length-le}
 use lib.Seq.{drop-cons, take-length}
@@ -11,7 +11,7 @@ use lib.Dec.{eqb}
 use borrow.Author.Tests.{eq-eqb, ne-eqb, eqb-true, le-leb, lt-leb}
 use Rattle.ascii.proofs.Clash.{clash}
 use Rattle.ascii.specs.Bytes.{pick}
-use Rattle.ascii.specs.Texts.{every, each, sameBy, sameBytes, partOf}
+use Rattle.ascii.specs.Texts.{every, each, sameBy, sameBytes, partOf, before, cutAt}
 use Rattle.ascii.specs.Reading.{headOf, runOf, past}
 use Rattle.ascii.proofs.Bytes.{and-left, and-right}
 
@@ -126,3 +126,35 @@ pub every-past-whole : (p : ℕ → Bool) (xs : List ℕ) → every p xs ≡ tru
 unfolding every past pick
 every-past-whole p [] e = refl
 every-past-whole p (x ∷ xs) e = rw (and-left (p x) (every p xs) e) (every-past-whole p xs (and-right (p x) (every p xs) e))
+
+-- tests that agree at every byte cut a text alike
+pub cut-same : (p q : ℕ → Bool) → ((b : ℕ) → p b ≡ q b) → (l : List ℕ) → cutAt p l ≡ cutAt q l
+unfolding cutAt
+cut-same p q h [] = refl
+cut-same p q h (x ∷ xs) = rw (h x, cut-same p q h xs)
+
+-- and have the same runs
+pub run-same : (p q : ℕ → Bool) → ((b : ℕ) → p b ≡ q b) → (l : List ℕ) → runOf p l ≡ runOf q l
+unfolding runOf
+run-same p q h [] = refl
+run-same p q h (x ∷ xs) = rw (h x, run-same p q h xs)
+
+pub past-same : (p q : ℕ → Bool) → ((b : ℕ) → p b ≡ q b) → (l : List ℕ) → past p l ≡ past q l
+unfolding past
+past-same p q h [] = refl
+past-same p q h (x ∷ xs) = rw (h x, past-same p q h xs)
+
+-- what follows the first cut, cut
+unfoldable pub restCut : (ℕ → Bool) → List ℕ → List (List ℕ)
+restCut cuts [] = []
+restCut cuts (x ∷ m) = cutAt cuts m
+
+-- a text is cut into the run up to the first cut, and the rest
+pub cut-run : (cuts : ℕ → Bool) (l : List ℕ) → cutAt cuts l ≡ runOf (λ b. not (cuts b)) l ∷ restCut cuts (past (λ b. not (cuts b)) l)
+unfolding cutAt runOf past restCut
+cut-run cuts [] = refl
+cut-run cuts (x ∷ xs) = go (cuts x) (cut-run cuts xs)
+  where
+    go : (b : Bool) → cutAt cuts xs ≡ runOf (λ b. not (cuts b)) xs ∷ restCut cuts (past (λ b. not (cuts b)) xs) → pick b ([] ∷ cutAt cuts xs) (before x (cutAt cuts xs)) ≡ pick (not b) (x ∷ runOf (λ b. not (cuts b)) xs) [] ∷ restCut cuts (pick (not b) (past (λ b. not (cuts b)) xs) (x ∷ xs))
+    go true e = unfold pick restCut in refl
+    go false e = unfold pick before in (rw e)

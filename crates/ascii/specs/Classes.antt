@@ -17,3 +17,7 @@ inClass Token b = isTokenByte b
 inClass Base64 b = isBase64 b
 inClass (Not x) b = not (eqb b x)
 inClass (Neither x y) b = not (eqb b x) && not (eqb b y)
+
+-- the bytes that are not of a class
+abbrev pub outside : Class → ℕ → Bool
+outside k b = not (inClass k b)
