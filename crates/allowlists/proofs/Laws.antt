@@ -28,6 +28,10 @@ pub listed-admits : (x y : Bool) (es : List SourceExpression) (a b : Bool) (o : 
 unfolding listAdmits
 listed-admits x y es a b o = refl
 
+pub no-parts : (a b : Bool) (o : Origin) → listAdmits (listed false false []) a b o ≡ false
+unfolding listAdmits anyAdmits
+no-parts a b o = refl
+
 pub any-nil : (o : Origin) → anyAdmits [] o ≡ false
 unfolding anyAdmits
 any-nil o = refl

@@ -1,6 +1,2 @@
-pub mod Words
-pub mod Entries
-pub mod Lists
-pub mod Standing
+pub mod Steps
 pub mod Laws
-pub mod Added

@@ -1,7 +1,6 @@
 pub mod Attributes
-pub mod Allowlists
 pub mod Policies
 pub mod Sandboxes
 pub mod Answers
 pub mod Widening
-pub mod Examples
+pub mod Computing

@@ -37,6 +37,10 @@ pub entry-same : (p q : ℕ → Bool) → ((b : ℕ) → p b ≡ q b) → (s : L
 unfolding entryOf piecesOf
 entry-same p q h s n = rw (cut-same p q h s)
 
+pub range-same : (p q : ℕ → Bool) → ((b : ℕ) → p b ≡ q b) → (s : List ℕ) (n : ℕ) → entryAt p s n ≡ entryAt q s n
+unfolding entryAt
+range-same p q h s n = rw (cut-same p q h s)
+
 -- an empty text has no entry, as an absent one
 pub empty-entry : (ends : ℕ → Bool) (n : ℕ) → entryOf ends [] n ≡ none
 unfolding entryOf piecesOf cutAt lastFor isFor featureIn pick

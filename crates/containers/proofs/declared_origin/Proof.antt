@@ -1,6 +1,5 @@
 -- `declared_origin` is right: each arm is the clause of the definition.
-use Rattle.containers.proofs.Lists.{declareds}
-use Rattle.containers.proofs.Laws.{declared-is}
+use Rattle.containers.proofs.Steps.{declareds}
 use borrow.Author.Needs.{needs}
 use Rattle.containers.proofs.declared_origin.Statement.{statement}
 use Rattle.containers.proofs.declared_origin.Tie as tie
@@ -13,9 +12,9 @@ declared-origin-spec =
     (λ c. search needs)
     (λ c. search needs)
     (λ c. search needs)
-    (λ c. search (declareds, declared-is))
-    (λ c. search (declareds, declared-is))
-    (λ c. search (declareds, declared-is))
-    (λ c. search (declareds, declared-is))
-    (λ c. search (declareds, declared-is))
-    (λ c. search (declareds, declared-is)))
+    (λ c. search declareds)
+    (λ c. search declareds)
+    (λ c. search declareds)
+    (λ c. search declareds)
+    (λ c. search declareds)
+    (λ c. search declareds))

@@ -1,5 +1,5 @@
 -- `is_sandboxed` is right: the container document, the mark and the keyword are asked in turn, as the definition asks.
-use Rattle.containers.proofs.Lists.{sandbox-container, sandbox-absent, sandbox-words}
+use Rattle.containers.proofs.Steps.{sandbox-container, sandbox-absent, sandbox-words}
 use borrow.Author.Needs.{needs}
 use Rattle.containers.proofs.is_sandboxed.Statement.{statement}
 use Rattle.containers.proofs.is_sandboxed.Tie as tie
