@@ -27,6 +27,7 @@ use Rattle.origins.specs.declared.Scheme.the-variants.{Http, Https}
 use Rattle.origins.specs.declared.PortPart.{PortPart}
 use Rattle.origins.specs.declared.PortPart.the-variants.{Default, Any, Number}
 use Rattle.origins.proofs.HostBytes.{isHostByte, host-bytes, host-some, not-star, host-no-colon, host-lower}
+use Rattle.origins.proofs.OriginHosts.{origin-host-no-colon}
 use Rattle.origins.proofs.Decimals.{port-back, port-digits, port-lead, port-number, port-part, port-some}
 
 -- what can follow a host: nothing, or a colon
@@ -127,6 +128,6 @@ unfolding originText tupleOf withPort
 origin-back o g =
     let b = eqb (o .port) (defaultPort (o .scheme)) in
     let m = pick b [] (58 ∷ portText (o .port)) in
-    let e : every notColon (o .host) ≡ true = host-no-colon (o .host) (host-bytes (o .host) (g .host)) in
+    let e : every notColon (o .host) ≡ true = origin-host-no-colon (o .host) (g .host) in
     let f : Follows m = port-follows b (portText (o .port)) in
     rw (origin-hosted (o .scheme) (o .host ++ m), host-run (o .host) e f, host-past (o .host) e f, g .host, origin-port-back b (o .scheme) (o .port) (g .port) refl) (unfold pick in refl)

@@ -34,7 +34,8 @@ use Rattle.origins.specs.declared.PortPart.{PortPart}
 use Rattle.origins.specs.declared.PortPart.the-variants.{Default, Any, Number}
 use Rattle.origins.proofs.Steps.{each-length}
 use Rattle.origins.proofs.HostParts.{each-drop}
-use Rattle.origins.proofs.HostBytes.{host-some, host-most}
+use Rattle.origins.proofs.HostBytes.{host-some}
+pub use Rattle.origins.proofs.OriginHosts.{host-origin, origin-host-some, origin-host-most}
 use Rattle.origins.proofs.Numbers.{number-most}
 use Rattle.origins.proofs.Decimals.{port-canonical, port-short}
 use Rattle.origins.proofs.Back.{Follows, text-back, origin-back}
@@ -101,7 +102,7 @@ module _ (s : List ℕ) (o : TupleOrigin) (e : originOf s ≡ saysTuple o) where
   -- and its text is at most 267 bytes long
   pub tuple-length : length s ≤ originBytes
   tuple-length =
-      omega (arith, ap length (parts .is), length-append (schemeSlashes (o .scheme)) (o .host ++ parts .rest), length-append (o .host) (parts .rest), slashes-most (o .scheme), host-most (o .host) (parts .host), said .short)
+      omega (arith, ap length (parts .is), length-append (schemeSlashes (o .scheme)) (o .host ++ parts .rest), length-append (o .host) (parts .rest), slashes-most (o .scheme), origin-host-most (o .host) (parts .host), said .short)
 
   -- the range that the code answers stands for the origin
   pub tuple-range : tupleIn s (tupleRange o) ≡ o

@@ -8,6 +8,7 @@ pub mod Readers
 pub mod Matches
 pub mod Decimals
 pub mod HostBytes
+pub mod OriginHosts
 pub mod Back
 pub mod Said
 pub mod Laws

@@ -15,7 +15,7 @@ use Rattle.ascii.specs.Texts.{each, lowered, sameBytes, sameLowered, partOf}
 use Rattle.ascii.specs.Reading.{isEmpty, next, runOf, past}
 use Rattle.ascii.proofs.Texts.{bytes-same, part-in}
 use Rattle.ascii.proofs.Reading.{run-cut}
-use Rattle.origins.specs.Hosts.{isHost}
+use Rattle.origins.specs.Hosts.{isHost, isOriginHost}
 use Rattle.origins.specs.Ports.{decimal, isPortPart, originPort, portPartOf}
 use Rattle.origins.specs.Origins.{TupleOrigin, OriginSaid, schemeText, schemeSlashes, nullText, startsWith, notColon, withPort, tupleOf, originOf}
 use Rattle.origins.specs.Origins.OriginSaid.{saysEmpty, saysNull, saysTuple, noOrigin}
@@ -53,10 +53,10 @@ pub record OriginParts (s : List ℕ) (o : TupleOrigin) : Type 0 where
   pub rest : List ℕ
   pub follows : Follows rest
   pub is : s ≡ schemeSlashes (o .scheme) ++ (o .host ++ rest)
-  pub host : isHost (o .host) ≡ true
+  pub host : isOriginHost (o .host) ≡ true
   pub port : originPort (o .scheme) rest ≡ some (o .port)
 
-tuple-said : (k : Scheme) (s l : List ℕ) (o : TupleOrigin) → s ≡ schemeSlashes k ++ l → (b : Bool) (q : Option ℕ) → isHost (runOf notColon l) ≡ b → originPort k (past notColon l) ≡ q → pick b (withPort k (runOf notColon l) q) noOrigin ≡ saysTuple o → OriginParts s o
+tuple-said : (k : Scheme) (s l : List ℕ) (o : TupleOrigin) → s ≡ schemeSlashes k ++ l → (b : Bool) (q : Option ℕ) → isOriginHost (runOf notColon l) ≡ b → originPort k (past notColon l) ≡ q → pick b (withPort k (runOf notColon l) q) noOrigin ≡ saysTuple o → OriginParts s o
 unfolding pick withPort
 tuple-said k s l o e true (some n) h p f =
     let r : _≡_ {A = TupleOrigin} (record { scheme = k; host = runOf notColon l; port = n }) o = cc in
@@ -69,7 +69,7 @@ tuple-parts : (k : Scheme) (s : List ℕ) (o : TupleOrigin) → startsWith (sche
 unfolding tupleOf
 tuple-parts k s o e f =
     let l = drop (length (schemeSlashes k)) s in
-    tuple-said k s l o (starts-is (schemeSlashes k) s e) (isHost (runOf notColon l)) (originPort k (past notColon l)) refl refl f
+    tuple-said k s l o (starts-is (schemeSlashes k) s e) (isOriginHost (runOf notColon l)) (originPort k (past notColon l)) refl refl f
 
 pub origin-parts : (s : List ℕ) (o : TupleOrigin) → originOf s ≡ saysTuple o → OriginParts s o
 unfolding originOf
@@ -85,7 +85,7 @@ origin-parts s o e = go (isEmpty s) (sameBytes s nullText) (startsWith (schemeSl
 -- only the empty text says "empty", and only `null` "null"
 tuple-no-empty : (k : Scheme) (l : List ℕ) → (tupleOf k l ≡ saysEmpty → ⊥) × (tupleOf k l ≡ saysNull → ⊥)
 unfolding tupleOf
-tuple-no-empty k l = go (isHost (runOf notColon l)) (originPort k (past notColon l))
+tuple-no-empty k l = go (isOriginHost (runOf notColon l)) (originPort k (past notColon l))
   where
     go : (b : Bool) (q : Option ℕ) → (pick b (withPort k (runOf notColon l) q) noOrigin ≡ saysEmpty → ⊥) × (pick b (withPort k (runOf notColon l) q) noOrigin ≡ saysNull → ⊥)
     go true (some n) = (λ f. clash (unfold pick withPort in cc), λ f. clash (unfold pick withPort in cc))

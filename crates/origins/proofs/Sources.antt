@@ -9,7 +9,7 @@ use lib.ListN.{length, take, drop, length-drop, length-take}
 use borrow.Author.Tests.{not-true, not-false}
 use Rattle.ascii.proofs.Clash.{clash}
 use Rattle.ascii.specs.Bytes.{pick, lower, within}
-use Rattle.ascii.specs.Texts.{every, each, lowered, sameBytes}
+use Rattle.ascii.specs.Texts.{every, lowered, sameBytes}
 use Rattle.ascii.specs.Reading.{runOf, past}
 use Rattle.ascii.specs.Places.{IsRun}
 use Rattle.ascii.specs.declared.Class.the-variants.{Not}
@@ -17,13 +17,13 @@ use Rattle.ascii.proofs.Reading.{run-part}
 use Rattle.ascii.proofs.Bytes.{and-left, within-low}
 use Rattle.ascii.specs.Literals
 use Rattle.limits.specs.Limits.{hostBytes}
-use Rattle.origins.specs.Hosts.{labels, isLabel, isHost}
+use Rattle.origins.specs.Hosts.{labels, isLabel, isHost, isOriginHost}
 use Rattle.origins.specs.Ports.{originPort, portPartOf}
 use Rattle.origins.specs.Origins.{TupleOrigin, OriginSaid, schemeSlashes, startsWith, notColon, withPort, tupleOf}
 use Rattle.origins.specs.Expressions.{HostPart, SourceExpression, hostPartOf, withParts, hostSourceOf}
 use Rattle.origins.specs.Expressions.HostPart.{noHost, anyHost, exactHost, subdomainsOf}
 use Rattle.origins.specs.Answers.{originAs, sourceAs}
-use Rattle.origins.specs.Steps.{fold, digitsAs, portAs, hostAs}
+use Rattle.origins.specs.Steps.{digitsAs, portAs, hostAs}
 use Rattle.origins.specs.declared.Scheme.{Scheme}
 use Rattle.origins.specs.declared.Digits.{Digits}
 use Rattle.origins.specs.declared.Digits.the-variants as digits
@@ -36,7 +36,7 @@ use Rattle.origins.specs.declared.HostRead.the-variants as host
 use Rattle.origins.specs.declared.HostKind.the-variants as kind
 use Rattle.origins.specs.declared.Source.the-variants as source
 use Rattle.origins.proofs.Numbers.{digits-some, digits-none}
-use Rattle.origins.proofs.Steps.{each-as-is, each-length, rest-all}
+use Rattle.origins.proofs.Steps.{each-length, rest-all}
 
 ports-some : (o : Option PortPart) (r : PortRead) (p : PortPart) → r ≡ portAs o → r ≡ port.Part p → o ≡ some p
 ports-some (some m) r p e f = let k : m ≡ p = cc in rw k
@@ -120,9 +120,9 @@ module _ (k : Scheme) (s : List ℕ) (from to : ℕ) (inside : from ≤ length s
   host-length : length (runOf notColon (drop from s)) ≡ to - from
   host-length = ap length (sym host-there) ∙ length-take (to - from) (drop from s) ∙ omega (arith, length-drop from s, run .upto)
 
-  module _ (b : Bool) (u : b ≡ isHost (each (fold false) (take (to - from) (drop from s)))) where
-    good : isHost (runOf notColon (drop from s)) ≡ b
-    good = rw (← host-there, ← (each-as-is (take (to - from) (drop from s)))) (sym u)
+  module _ (b : Bool) (u : b ≡ isOriginHost (take (to - from) (drop from s))) where
+    good : isOriginHost (runOf notColon (drop from s)) ≡ b
+    good = rw (← host-there) (sym u)
 
     pub tuple-no-host : not b ≡ true → text.NotAnOrigin ≡ originAs (tupleOf k (drop from s))
     unfolding tupleOf pick

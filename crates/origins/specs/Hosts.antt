@@ -26,3 +26,7 @@ isLabel l = not (isEmpty l) && every isLabelByte l
 -- "A host is 1 to 253 bytes of lower-case letters, digits and hyphens in labels parted by single dots, no label empty."
 unfoldable pub isHost : List ℕ → Bool
 isHost h = within 1 hostBytes (length h) && every isLabel (labels h)
+
+-- the hosts of origin texts: "An origin text is `http://` or `https://`, a host, and perhaps `:` and a port"
+unfoldable pub isOriginHost : List ℕ → Bool
+isOriginHost h = isHost h

@@ -9,7 +9,7 @@ use Rattle.ascii.specs.Bytes.{pick}
 use Rattle.ascii.specs.Literals.{text}
 use Rattle.ascii.specs.Texts.{sameBytes}
 use Rattle.ascii.specs.Reading.{isEmpty, runOf, past}
-use Rattle.origins.specs.Hosts.{isHost}
+use Rattle.origins.specs.Hosts.{isOriginHost}
 use Rattle.origins.specs.Ports.{originPort}
 use Rattle.origins.specs.declared.Scheme.{Scheme}
 use Rattle.origins.specs.declared.Scheme.the-variants.{Http, Https}
@@ -56,7 +56,7 @@ withPort k h none = noOrigin
 
 -- past the scheme: "a host, and perhaps `:` and a port"
 unfoldable pub tupleOf : Scheme → List ℕ → OriginSaid
-tupleOf k l = pick (isHost (runOf notColon l)) (withPort k (runOf notColon l) (originPort k (past notColon l))) noOrigin
+tupleOf k l = pick (isOriginHost (runOf notColon l)) (withPort k (runOf notColon l) (originPort k (past notColon l))) noOrigin
 
 -- "An origin text is `http://` or `https://`, a host, and perhaps `:` and a port; or `null`; or empty."
 unfoldable pub originOf : List ℕ → OriginSaid

@@ -5,7 +5,7 @@ ghost use Prim.Native.Nat.{_≤_, _<_, _-_, _+_};
 ghost use lib.ListN.{length, drop};
 ghost use mathlib.Core.Option.{some};
 ghost use Rattle.ascii.specs.Texts.{every, lowered, each, sameLowered};
-ghost use Rattle.origins.specs.Hosts.{labels, isLabel, isHost};
+ghost use Rattle.origins.specs.Hosts.{labels, isLabel, isHost, isOriginHost};
 ghost use Rattle.origins.specs.Ports.{defaultPort, leadsZero, originPort, portPartOf};
 ghost use Rattle.origins.specs.Origins.{schemeSlashes, startsWith, originOf, tupleOf};
 ghost use Rattle.origins.specs.Expressions.{schemeSource, startsLowered, hostPartOf, hostSourceOf, expressionOf};
@@ -131,6 +131,13 @@ fn is_host(h: &[u8], anycase: bool) -> bool
     labels_good(h, anycase)
 }
 
+// Whether a text is a host as origin texts have them.
+fn is_origin_host(h: &[u8]) -> bool
+    ensures { λ r. ⌜ r ≡ isOriginHost (now (h .entry)) ⌝ }
+{
+    is_host(h, false)
+}
+
 // A port's digits, read.
 enum Digits {
     Number(u32),
@@ -207,7 +214,7 @@ fn tuple(s: &[u8], from: usize, k: Scheme) -> OriginText
     ensures { λ r. ⌜ r ≡ originAs (tupleOf k (drop from (now (s .entry)))) ⌝ }
 {
     let to = ascii::run_end(s, from, Class::Not(b':'));
-    if !is_host(&s[from..to], false) {
+    if !is_origin_host(&s[from..to]) {
         return OriginText::NotAnOrigin;
     }
     match origin_port(&s[to..], k) {
