@@ -20,7 +20,7 @@ use Rattle.ascii.proofs.Texts.{bytes-same, same-bytes, part-in}
 use Rattle.ascii.proofs.Reading.{run-cut}
 use Rattle.origins.specs.Hosts.{isHost}
 use Rattle.origins.specs.Ports.{defaultPort, decimal, isNumber, leadsZero, isPort, originPort, isPortPart, portPartOf}
-use Rattle.origins.specs.Origins.{TupleOrigin, Origin, OriginSaid, schemeSlashes, nullText, notColon, originOf}
+use Rattle.origins.specs.Origins.{TupleOrigin, Origin, OriginSaid, schemeSlashes, pastScheme, nullText, notColon, originOf}
 use Rattle.origins.specs.Origins.Origin.{tuple, opaque, fresh}
 use Rattle.origins.specs.Origins.OriginSaid.{saysEmpty, saysNull, saysTuple, noOrigin}
 use Rattle.origins.specs.Expressions.{HostPart, SourceExpression, hostPartOf, schemeSource, expressionOf}
@@ -238,7 +238,7 @@ part-run s n i r t h e g =
     sym p ∙ ap (take (n + i + m - (n + i))) q ∙ take-at (drop i r) t (n + i + m - (n + i)) (omega arith)
 
 -- the range that the code answers stands for the host part
-host-range : (k : Scheme) (s : List ℕ) (x : HostPart) → length (schemeSlashes k) ≤ length s → hostPartOf (lowered (runOf notColon (drop (length (schemeSlashes k)) s))) ≡ some x → hostIn (hostKind x) (lowered (partOf s (hostFrom k x) (hostTo k x))) ≡ x
+host-range : (k : Scheme) (s : List ℕ) (x : HostPart) → length (schemeSlashes k) ≤ length s → hostPartOf (lowered (runOf notColon (pastScheme k s))) ≡ some x → hostIn (hostKind x) (lowered (partOf s (hostFrom k x) (hostTo k x))) ≡ x
 host-range k s x h e = host-cases (lowered r) x e (hostIn (hostKind x) (lowered (partOf s (hostFrom k x) (hostTo k x))) ≡ x) any exact below
   where
     n : ℕ
@@ -293,7 +293,7 @@ host-good g x p e =
 pub expression-good : (s : List ℕ) (e : SourceExpression) → expressionOf s ≡ some e → GoodExpression e
 expression-good s e f =
     source-cases s e f (GoodExpression e) (λ k g. subst (λ (y : SourceExpression). GoodExpression y) (sym g) (record { host = refl; port = tt }))
-    (λ p. record { host = host-good (lowered (runOf notColon (drop (length (schemeSlashes (e .scheme))) s))) (e .host) (e .port) (p .host); port = part-good (past notColon (drop (length (schemeSlashes (e .scheme))) s)) (e .port) (p .port) })
+    (λ p. record { host = host-good (lowered (runOf notColon (pastScheme (e .scheme) s))) (e .host) (e .port) (p .host); port = part-good (past notColon (pastScheme (e .scheme) s)) (e .port) (p .port) })
 
 -- the default port dropped: the same origins are admitted
 port-normal : (k : Scheme) (p : PortPart) (n : ℕ) → portAdmits (normalPort k p) k n ≡ portAdmits p k n

@@ -11,7 +11,7 @@ use Rattle.ascii.specs.Literals
 use Rattle.ascii.specs.Texts.{each, sameBytes, sameLowered}
 use Rattle.ascii.specs.Reading.{isEmpty}
 use Rattle.ascii.proofs.Texts.{same-is}
-use Rattle.origins.specs.Origins.{schemeText, schemeSlashes, nullText, startsWith, tupleOf, originOf}
+use Rattle.origins.specs.Origins.{schemeText, schemeSlashes, pastScheme, nullText, startsWith, tupleOf, originOf}
 use Rattle.origins.specs.Expressions.{schemeSource, startsLowered, hostSourceOf, expressionOf}
 use Rattle.origins.specs.Answers.{originAs, sourceAs}
 use Rattle.origins.specs.declared.Scheme.the-variants.{Http, Https}
@@ -45,12 +45,12 @@ module _ (s : List ℕ) where
     origin-null v = rw (empty-no s h, ← u, v)
 
     module _ (v : a ≡ false) (b : Bool) (w : b ≡ startsWith (schemeSlashes Http) s) where
-      pub origin-http : b ≡ true → (r : OriginText) → r ≡ originAs (tupleOf Http (drop 7 s)) → r ≡ originAs (originOf s)
+      pub origin-http : b ≡ true → (r : OriginText) → r ≡ originAs (tupleOf Http (pastScheme Http s)) → r ≡ originAs (originOf s)
       unfolding originOf pick
       origin-http x r y = rw (empty-no s h, ← u, v, ← w, x) y
 
       module _ (x : b ≡ false) (c : Bool) (y : c ≡ startsWith (schemeSlashes Https) s) where
-        pub origin-https : c ≡ true → (r : OriginText) → r ≡ originAs (tupleOf Https (drop 8 s)) → r ≡ originAs (originOf s)
+        pub origin-https : c ≡ true → (r : OriginText) → r ≡ originAs (tupleOf Https (pastScheme Https s)) → r ≡ originAs (originOf s)
         unfolding originOf pick
         origin-https z r e = rw (empty-no s h, ← u, v, ← w, x, ← y, z) e
 
@@ -69,12 +69,12 @@ module _ (s : List ℕ) where
       source-https x r e = rw (← u, v, ← w, x) e
 
       module _ (x : b ≡ false) (c : Bool) (y : c ≡ startsLowered (schemeSlashes Http) s) where
-        pub source-http-host : c ≡ true → (r : Source) → r ≡ sourceAs (hostSourceOf Http (drop 7 s)) → r ≡ sourceAs (expressionOf s)
+        pub source-http-host : c ≡ true → (r : Source) → r ≡ sourceAs (hostSourceOf Http (pastScheme Http s)) → r ≡ sourceAs (expressionOf s)
         unfolding expressionOf pick
         source-http-host z r e = rw (← u, v, ← w, x, ← y, z) e
 
         module _ (z : c ≡ false) (d : Bool) (f : d ≡ startsLowered (schemeSlashes Https) s) where
-          pub source-https-host : d ≡ true → (r : Source) → r ≡ sourceAs (hostSourceOf Https (drop 8 s)) → r ≡ sourceAs (expressionOf s)
+          pub source-https-host : d ≡ true → (r : Source) → r ≡ sourceAs (hostSourceOf Https (pastScheme Https s)) → r ≡ sourceAs (expressionOf s)
           unfolding expressionOf pick
           source-https-host g r e = rw (← u, v, ← w, x, ← y, z, ← f, g) e
 

@@ -17,7 +17,7 @@ use Rattle.ascii.proofs.Texts.{bytes-same, part-in}
 use Rattle.ascii.proofs.Reading.{run-cut}
 use Rattle.origins.specs.Hosts.{isHost, isOriginHost}
 use Rattle.origins.specs.Ports.{decimal, isPortPart, originPort, portPartOf}
-use Rattle.origins.specs.Origins.{TupleOrigin, OriginSaid, schemeText, schemeSlashes, nullText, startsWith, notColon, withPort, tupleOf, originOf}
+use Rattle.origins.specs.Origins.{TupleOrigin, OriginSaid, schemeText, schemeSlashes, pastScheme, nullText, startsWith, notColon, withPort, tupleOf, originOf}
 use Rattle.origins.specs.Origins.OriginSaid.{saysEmpty, saysNull, saysTuple, noOrigin}
 use Rattle.origins.specs.Expressions.{HostPart, SourceExpression, hostPartOf, withParts, schemeSource, hostSourceOf, startsLowered, expressionOf}
 use Rattle.origins.specs.Expressions.HostPart.{noHost, anyHost, exactHost, subdomainsOf}
@@ -65,17 +65,17 @@ tuple-said k s l o e true (some n) h p f =
 tuple-said k s l o e true none h p f = clash cc
 tuple-said k s l o e false q h p f = clash cc
 
-tuple-parts : (k : Scheme) (s : List ℕ) (o : TupleOrigin) → startsWith (schemeSlashes k) s ≡ true → tupleOf k (drop (length (schemeSlashes k)) s) ≡ saysTuple o → OriginParts s o
+tuple-parts : (k : Scheme) (s : List ℕ) (o : TupleOrigin) → startsWith (schemeSlashes k) s ≡ true → tupleOf k (pastScheme k s) ≡ saysTuple o → OriginParts s o
 unfolding tupleOf
 tuple-parts k s o e f =
-    let l = drop (length (schemeSlashes k)) s in
+    let l = pastScheme k s in
     tuple-said k s l o (starts-is (schemeSlashes k) s e) (isOriginHost (runOf notColon l)) (originPort k (past notColon l)) refl refl f
 
 pub origin-parts : (s : List ℕ) (o : TupleOrigin) → originOf s ≡ saysTuple o → OriginParts s o
 unfolding originOf
 origin-parts s o e = go (isEmpty s) (sameBytes s nullText) (startsWith (schemeSlashes Http) s) (startsWith (schemeSlashes Https) s) refl refl e
   where
-    go : (a b c d : Bool) → startsWith (schemeSlashes Http) s ≡ c → startsWith (schemeSlashes Https) s ≡ d → pick a saysEmpty (pick b saysNull (pick c (tupleOf Http (drop 7 s)) (pick d (tupleOf Https (drop 8 s)) noOrigin))) ≡ saysTuple o → OriginParts s o
+    go : (a b c d : Bool) → startsWith (schemeSlashes Http) s ≡ c → startsWith (schemeSlashes Https) s ≡ d → pick a saysEmpty (pick b saysNull (pick c (tupleOf Http (pastScheme Http s)) (pick d (tupleOf Https (pastScheme Https s)) noOrigin))) ≡ saysTuple o → OriginParts s o
     go true b c d u v f = clash (unfold pick in cc)
     go false true c d u v f = clash (unfold pick in cc)
     go false false true d u v f = tuple-parts Http s o u (unfold pick in f)
@@ -96,22 +96,22 @@ pub said-empty : (s : List ℕ) → originOf s ≡ saysEmpty → s ≡ []
 unfolding originOf
 said-empty s e = go (isEmpty s) (sameBytes s nullText) (startsWith (schemeSlashes Http) s) (startsWith (schemeSlashes Https) s) refl e
   where
-    go : (a b c d : Bool) → isEmpty s ≡ a → pick a saysEmpty (pick b saysNull (pick c (tupleOf Http (drop 7 s)) (pick d (tupleOf Https (drop 8 s)) noOrigin))) ≡ saysEmpty → s ≡ []
+    go : (a b c d : Bool) → isEmpty s ≡ a → pick a saysEmpty (pick b saysNull (pick c (tupleOf Http (pastScheme Http s)) (pick d (tupleOf Https (pastScheme Https s)) noOrigin))) ≡ saysEmpty → s ≡ []
     go true b c d u f = empty-is s u
     go false true c d u f = clash (unfold pick in cc)
-    go false false true d u f = absurd (tuple-no-empty Http (drop 7 s) .0 (unfold pick in f))
-    go false false false true u f = absurd (tuple-no-empty Https (drop 8 s) .0 (unfold pick in f))
+    go false false true d u f = absurd (tuple-no-empty Http (pastScheme Http s) .0 (unfold pick in f))
+    go false false false true u f = absurd (tuple-no-empty Https (pastScheme Https s) .0 (unfold pick in f))
     go false false false false u f = clash (unfold pick in cc)
 
 pub said-null : (s : List ℕ) → originOf s ≡ saysNull → s ≡ nullText
 unfolding originOf
 said-null s e = go (isEmpty s) (sameBytes s nullText) (startsWith (schemeSlashes Http) s) (startsWith (schemeSlashes Https) s) refl e
   where
-    go : (a b c d : Bool) → sameBytes s nullText ≡ b → pick a saysEmpty (pick b saysNull (pick c (tupleOf Http (drop 7 s)) (pick d (tupleOf Https (drop 8 s)) noOrigin))) ≡ saysNull → s ≡ nullText
+    go : (a b c d : Bool) → sameBytes s nullText ≡ b → pick a saysEmpty (pick b saysNull (pick c (tupleOf Http (pastScheme Http s)) (pick d (tupleOf Https (pastScheme Https s)) noOrigin))) ≡ saysNull → s ≡ nullText
     go true b c d u f = clash (unfold pick in cc)
     go false true c d u f = bytes-same s nullText u
-    go false false true d u f = absurd (tuple-no-empty Http (drop 7 s) .1 (unfold pick in f))
-    go false false false true u f = absurd (tuple-no-empty Https (drop 8 s) .1 (unfold pick in f))
+    go false false true d u f = absurd (tuple-no-empty Http (pastScheme Http s) .1 (unfold pick in f))
+    go false false false true u f = absurd (tuple-no-empty Https (pastScheme Https s) .1 (unfold pick in f))
     go false false false false u f = clash (unfold pick in cc)
 
 -- a host part is one of three
@@ -130,10 +130,10 @@ host-cases g x e P l m n = host-said g x (sameBytes g (text "*")) (startsWith (t
 -- a text that is an expression: a scheme alone, or past its scheme and `://` a host part and a port-part
 pub record SourceParts (s : List ℕ) (e : SourceExpression) : Type 0 where
   pub long : length (schemeSlashes (e .scheme)) ≤ length s
-  pub host : hostPartOf (lowered (runOf notColon (drop (length (schemeSlashes (e .scheme))) s))) ≡ some (e .host)
-  pub port : portPartOf (past notColon (drop (length (schemeSlashes (e .scheme))) s)) ≡ some (e .port)
+  pub host : hostPartOf (lowered (runOf notColon (pastScheme (e .scheme) s))) ≡ some (e .host)
+  pub port : portPartOf (past notColon (pastScheme (e .scheme) s)) ≡ some (e .port)
 
-source-said : (k : Scheme) (s : List ℕ) (e : SourceExpression) → length (schemeSlashes k) ≤ length s → (x : Option HostPart) (p : Option PortPart) → hostPartOf (lowered (runOf notColon (drop (length (schemeSlashes k)) s))) ≡ x → portPartOf (past notColon (drop (length (schemeSlashes k)) s)) ≡ p → withParts k x p ≡ some e → SourceParts s e
+source-said : (k : Scheme) (s : List ℕ) (e : SourceExpression) → length (schemeSlashes k) ≤ length s → (x : Option HostPart) (p : Option PortPart) → hostPartOf (lowered (runOf notColon (pastScheme k s))) ≡ x → portPartOf (past notColon (pastScheme k s)) ≡ p → withParts k x p ≡ some e → SourceParts s e
 unfolding withParts
 source-said k s e n (some x) (some p) h q f =
     let r : _≡_ {A = SourceExpression} (record { scheme = k; host = x; port = p }) e = cc in
@@ -142,16 +142,16 @@ source-said k s e n (some x) (some p) h q f =
 source-said k s e n (some x) none h q f = clash cc
 source-said k s e n none p h q f = clash cc
 
-source-parts : (k : Scheme) (s : List ℕ) (e : SourceExpression) → startsLowered (schemeSlashes k) s ≡ true → hostSourceOf k (drop (length (schemeSlashes k)) s) ≡ some e → SourceParts s e
+source-parts : (k : Scheme) (s : List ℕ) (e : SourceExpression) → startsLowered (schemeSlashes k) s ≡ true → hostSourceOf k (pastScheme k s) ≡ some e → SourceParts s e
 unfolding hostSourceOf
 source-parts k s e u f =
-    source-said k s e (starts-lowered-long (schemeSlashes k) s true (sym u) refl) (hostPartOf (lowered (runOf notColon (drop (length (schemeSlashes k)) s)))) (portPartOf (past notColon (drop (length (schemeSlashes k)) s))) refl refl f
+    source-said k s e (starts-lowered-long (schemeSlashes k) s true (sym u) refl) (hostPartOf (lowered (runOf notColon (pastScheme k s)))) (portPartOf (past notColon (pastScheme k s))) refl refl f
 
 pub source-cases : (s : List ℕ) (e : SourceExpression) → expressionOf s ≡ some e → (P : Type 0) → ((k : Scheme) → e ≡ schemeSource k → P) → (SourceParts s e → P) → P
 unfolding expressionOf
 source-cases s e f P l m = go (sameLowered s (schemeText Http)) (sameLowered s (schemeText Https)) (startsLowered (schemeSlashes Http) s) (startsLowered (schemeSlashes Https) s) refl refl f
   where
-    go : (a b c d : Bool) → startsLowered (schemeSlashes Http) s ≡ c → startsLowered (schemeSlashes Https) s ≡ d → pick a (some (schemeSource Http)) (pick b (some (schemeSource Https)) (pick c (hostSourceOf Http (drop 7 s)) (pick d (hostSourceOf Https (drop 8 s)) none))) ≡ some e → P
+    go : (a b c d : Bool) → startsLowered (schemeSlashes Http) s ≡ c → startsLowered (schemeSlashes Https) s ≡ d → pick a (some (schemeSource Http)) (pick b (some (schemeSource Https)) (pick c (hostSourceOf Http (pastScheme Http s)) (pick d (hostSourceOf Https (pastScheme Https s)) none))) ≡ some e → P
     go true b c d u v g = l Http (unfold pick in cc)
     go false true c d u v g = l Https (unfold pick in cc)
     go false false true d u v g = m (source-parts Http s e u (unfold pick in g))

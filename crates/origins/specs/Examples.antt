@@ -7,9 +7,9 @@ use mathlib.Core.Bool.{Bool, true, false, not, _&&_}
 use mathlib.Core.Option.{Option, some, none}
 use Rattle.ascii.specs.Bytes.{pick, lower}
 use Rattle.ascii.specs.Literals.{text}
-use Rattle.ascii.specs.Texts.{every, each, sameBy, sameBytes}
+use Rattle.ascii.specs.Texts.{every, each, sameBy, sameBytes, before, cutAt}
 use Rattle.ascii.specs.Reading.{headOf, isEmpty, next, runOf, past}
-use Rattle.origins.specs.Hosts.{longer, labels, isLabel, isHost, isOriginHost}
+use Rattle.origins.specs.Hosts.{isLabel, isHost, isOriginHost}
 use Rattle.origins.specs.Ports.{decimalFrom, isNumber, leadsZero, isPort, originPort, isPortPart, portPartOf}
 use Rattle.origins.specs.Origins.{TupleOrigin, OriginSaid, startsWith, withPort, tupleOf, originOf}
 use Rattle.origins.specs.Origins.Origin.{tuple}
@@ -55,7 +55,7 @@ marked =
     ∷ []
 
 marked-right : every right marked ≡ true
-unfolding marked every each sameBy lower pick headOf isEmpty next runOf past longer labels isLabel isHost isOriginHost decimalFrom isNumber leadsZero isPort originPort isPortPart portPartOf startsWith withPort tupleOf originOf hostPartOf withParts hostSourceOf startsLowered expressionOf endsIn portAdmits hostAdmits admitsTuple admits
+unfolding marked every each sameBy lower pick headOf isEmpty next runOf past before cutAt isLabel isHost isOriginHost decimalFrom isNumber leadsZero isPort originPort isPortPart portPartOf startsWith withPort tupleOf originOf hostPartOf withParts hostSourceOf startsLowered expressionOf endsIn portAdmits hostAdmits admitsTuple admits
 marked-right = refl
 
 -- texts, and whether they say a tuple origin
@@ -96,11 +96,11 @@ badOrigins =
     ∷ []
 
 origins-good : every (λ s. isTuple (originOf (text s))) goodOrigins ≡ true
-unfolding goodOrigins every sameBy pick headOf isEmpty next runOf past longer labels isLabel isHost isOriginHost decimalFrom isNumber leadsZero isPort originPort startsWith withPort tupleOf originOf
+unfolding goodOrigins every sameBy pick headOf isEmpty next runOf past before cutAt isLabel isHost isOriginHost decimalFrom isNumber leadsZero isPort originPort startsWith withPort tupleOf originOf
 origins-good = refl
 
 origins-bad : every (λ s. isNone (originOf (text s))) badOrigins ≡ true
-unfolding badOrigins every sameBy pick headOf isEmpty next runOf past longer labels isLabel isHost isOriginHost decimalFrom isNumber leadsZero isPort originPort startsWith withPort tupleOf originOf
+unfolding badOrigins every sameBy pick headOf isEmpty next runOf past before cutAt isLabel isHost isOriginHost decimalFrom isNumber leadsZero isPort originPort startsWith withPort tupleOf originOf
 origins-bad = refl
 
 -- an expression and its normal form, or no expression
@@ -142,5 +142,5 @@ forms =
     ∷ []
 
 forms-right : every formed forms ≡ true
-unfolding forms every each sameBy lower pick headOf isEmpty next runOf past longer labels isLabel isHost decimalFrom isNumber isPortPart portPartOf startsWith hostPartOf withParts hostSourceOf startsLowered expressionOf lastDigits portPartText expressionPartsText normalPort normal
+unfolding forms every each sameBy lower pick headOf isEmpty next runOf past before cutAt isLabel isHost decimalFrom isNumber isPortPart portPartOf startsWith hostPartOf withParts hostSourceOf startsLowered expressionOf lastDigits portPartText expressionPartsText normalPort normal
 forms-right = refl

@@ -34,6 +34,10 @@ abbrev pub schemeSlashes : Scheme → List ℕ
 schemeSlashes Http = text "http://"
 schemeSlashes Https = text "https://"
 
+-- what stands past the scheme and `://`
+abbrev pub pastScheme : Scheme → List ℕ → List ℕ
+pastScheme k s = drop (length (schemeSlashes k)) s
+
 abbrev pub nullText : List ℕ
 nullText = text "null"
 
@@ -63,5 +67,5 @@ unfoldable pub originOf : List ℕ → OriginSaid
 originOf s =
     pick (isEmpty s) saysEmpty
     (pick (sameBytes s nullText) saysNull
-    (pick (startsWith (schemeSlashes Http) s) (tupleOf Http (drop 7 s))
-    (pick (startsWith (schemeSlashes Https) s) (tupleOf Https (drop 8 s)) noOrigin)))
+    (pick (startsWith (schemeSlashes Http) s) (tupleOf Http (pastScheme Http s))
+    (pick (startsWith (schemeSlashes Https) s) (tupleOf Https (pastScheme Https s)) noOrigin)))

@@ -2,12 +2,12 @@
 ghost use mathlib.Core.Path.{_≡_};
 ghost use mathlib.Core.List.{_∷_};
 ghost use Prim.Native.Nat.{_≤_, _<_, _-_, _+_};
-ghost use lib.ListN.{length, drop};
+ghost use lib.ListN.{length};
 ghost use mathlib.Core.Option.{some};
 ghost use Rattle.ascii.specs.Texts.{every, lowered, each, sameLowered};
 ghost use Rattle.origins.specs.Hosts.{labels, isLabel, isHost, isOriginHost};
 ghost use Rattle.origins.specs.Ports.{defaultPort, leadsZero, originPort, portPartOf};
-ghost use Rattle.origins.specs.Origins.{schemeSlashes, startsWith, originOf, tupleOf};
+ghost use Rattle.origins.specs.Origins.{schemeSlashes, pastScheme, startsWith, originOf, tupleOf};
 ghost use Rattle.origins.specs.Expressions.{schemeSource, startsLowered, hostPartOf, hostSourceOf, expressionOf};
 ghost use Rattle.origins.specs.Steps.{fold, portNumber, digitsAs, portAs, hostAs, sameKind};
 ghost use Rattle.origins.specs.Matching.{sameScheme, endsIn, portAdmits, admitsTuple, admits, sameTuple, sameOrigin};
@@ -208,11 +208,22 @@ fn origin_port(p: &[u8], k: Scheme) -> Digits
     }
 }
 
-// A tuple origin, past its scheme and `://`.
-fn tuple(s: &[u8], from: usize, k: Scheme) -> OriginText
-    requires { ⌜ (from ≡ length (schemeSlashes k)) × (from ≤ length (now s)) ⌝ }
-    ensures { λ r. ⌜ r ≡ originAs (tupleOf k (drop from (now (s .entry)))) ⌝ }
+// How long a scheme and `://` are.
+fn slashes_length(k: Scheme) -> usize
+    ensures { λ r. ⌜ r ≡ length (schemeSlashes k) ⌝ }
 {
+    match k {
+        Scheme::Http => b"http://".len(),
+        Scheme::Https => b"https://".len(),
+    }
+}
+
+// A tuple origin, past its scheme and `://`.
+fn tuple(s: &[u8], k: Scheme) -> OriginText
+    requires { ⌜ length (schemeSlashes k) ≤ length (now s) ⌝ }
+    ensures { λ r. ⌜ r ≡ originAs (tupleOf k (pastScheme k (now (s .entry)))) ⌝ }
+{
+    let from = slashes_length(k);
     let to = ascii::run_end(s, from, Class::Not(b':'));
     if !is_origin_host(&s[from..to]) {
         return OriginText::NotAnOrigin;
@@ -247,10 +258,10 @@ pub fn origin_text(s: &[u8]) -> OriginText
         return OriginText::Null;
     }
     if starts_with(s, b"http://") {
-        return tuple(s, 7, Scheme::Http);
+        return tuple(s, Scheme::Http);
     }
     if starts_with(s, b"https://") {
-        return tuple(s, 8, Scheme::Https);
+        return tuple(s, Scheme::Https);
     }
     OriginText::NotAnOrigin
 }
@@ -315,10 +326,11 @@ fn host_part(h: &[u8]) -> HostRead
 }
 
 // A host-source, past its scheme and `://`.
-fn host_source(s: &[u8], from: usize, k: Scheme) -> Source
-    requires { ⌜ (from ≡ length (schemeSlashes k)) × (from ≤ length (now s)) ⌝ }
-    ensures { λ r. ⌜ r ≡ sourceAs (hostSourceOf k (drop from (now (s .entry)))) ⌝ }
+fn host_source(s: &[u8], k: Scheme) -> Source
+    requires { ⌜ length (schemeSlashes k) ≤ length (now s) ⌝ }
+    ensures { λ r. ⌜ r ≡ sourceAs (hostSourceOf k (pastScheme k (now (s .entry)))) ⌝ }
 {
+    let from = slashes_length(k);
     let to = ascii::run_end(s, from, Class::Not(b':'));
     match port_part(&s[to..]) {
         PortRead::Part(p) => match host_part(&s[from..to]) {
@@ -372,10 +384,10 @@ pub fn expression(s: &[u8]) -> Source
         return scheme_source(Scheme::Https);
     }
     if starts_lowered(s, b"http://") {
-        return host_source(s, 7, Scheme::Http);
+        return host_source(s, Scheme::Http);
     }
     if starts_lowered(s, b"https://") {
-        return host_source(s, 8, Scheme::Https);
+        return host_source(s, Scheme::Https);
     }
     Source::NotAnExpression
 }

@@ -10,6 +10,7 @@ tuple-spec =
     tie.close
     (tie.spec
     (λ c κs. search needs)
+    (λ c κs. search needs)
     (λ c. search needs)
     (λ c. search needs)
     (λ c. search needs)
@@ -21,5 +22,9 @@ tuple-spec =
     (λ c κs. search needs)
     (λ c. search needs)
     (λ c. search needs)
-    (λ c. search tuple-is)
+    (λ c.
+    let p = c .before .before .before in
+    let l = p .before .before in
+    let h = l .before .before .before in
+    tuple-is _ _ _ _ (h .before .slashes-length .ensures) (h .before .before .before .pre) (h .run-end .ensures) _ (l .before .is-origin-host .ensures) (l .if1 .left) _ (p .origin-port .ensures) _ (c .before .n .given .1))
     (λ c. search tuple-no-port))
