@@ -11,7 +11,9 @@ pub mod HostBytes
 pub mod OriginHosts
 pub mod Back
 pub mod Said
-pub mod Laws
+pub mod ExpressionTexts
+pub mod Parts
 pub mod PortTexts
 pub mod Normals
 pub mod Plain
+pub mod Laws

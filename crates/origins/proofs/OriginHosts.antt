@@ -28,6 +28,10 @@ module _ (h : List ℕ) (e : isOriginHost h ≡ true) where
   pub origin-host-most : length h ≤ hostBytes
   origin-host-most = host-most h is-host
 
+  -- the longest are hosts
+  pub origin-host-longest : length h ≡ hostBytes → isHost h ≡ true
+  origin-host-longest m = is-host
+
   pub origin-host-no-colon : every notColon h ≡ true
   origin-host-no-colon = host-no-colon h (host-bytes h is-host)
 

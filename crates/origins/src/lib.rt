@@ -515,7 +515,10 @@ fn admits_tuple(s: &[u8], e: ExpressionRange, t: &[u8], o: TupleRange) -> bool
     let port = e.port;
     let parts = ExpressionParts { scheme, host, port };
     let own = o.scheme;
-    let origin = TupleParts { scheme: own, port: o.port };
+    let origin = TupleParts {
+        scheme: own,
+        port: o.port,
+    };
     let x = ascii::part(s, e.from, e.to);
     let h = ascii::part(t, o.from, o.to);
     parts_match(parts, x, origin, h, true)
