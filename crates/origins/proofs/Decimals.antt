@@ -1,12 +1,12 @@
 -- Numbers written in decimal are read back, and digits without a leading zero are what their number is written as. Assumes nothing.
-use mathlib.Core.Path.{_≡_, refl, ap, _∙_, sym}
+use mathlib.Core.Path.{_≡_, refl, ap, _∙_}
 use Prim.Native.Nat.{ℕ, zero, suc, _+_, _-_, _*_, _/_, _%_, _≤_, _<_}
 use mathlib.Core.List.{List, [], _∷_, _++_}
-use mathlib.Core.Bool.{Bool, true, false, not, _&&_}
+use mathlib.Core.Bool.{Bool, true, false, _&&_}
 use native.Mathlib.Omega.{arith}
 use lib.ListN.{length, length-append}
 use lib.Dec.{leb, ltb, eqb}
-use borrow.Author.Tests.{leb-true, leb-false, lt-ltb, le-ltb, ltb-true, ltb-false, le-leb, eq-eqb, ne-eqb, eqb-false}
+use borrow.Author.Tests.{leb-true, leb-false, lt-ltb, le-ltb, ltb-true, ltb-false, le-leb, ne-eqb, eqb-false}
 use Rattle.ascii.proofs.Clash.{clash}
 use Rattle.limits.specs.Limits.{lastPort, portDigits}
 use Rattle.ascii.specs.Bytes.{pick, isDigit}

@@ -32,7 +32,7 @@ use Rattle.origins.proofs.Steps.{each-length}
 use Rattle.origins.proofs.HostParts.{each-drop}
 use Rattle.origins.proofs.HostBytes.{host-some, host-most}
 use Rattle.origins.proofs.Numbers.{number-most}
-use Rattle.origins.proofs.Said.{host-cases, source-cases}
+use Rattle.origins.proofs.TextParts.{host-cases, source-cases}
 use Rattle.origins.proofs.Readers.{starts-lowered-long}
 
 -- a part of a text that stands `i` bytes into what is known to stand at `n`

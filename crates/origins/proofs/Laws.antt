@@ -1,4 +1,4 @@
--- The laws of origins and expressions, for the crates above: nothing there opens a definition of this crate. Assumes nothing.
+-- The laws of origins and expressions that the crates above cite: these, and those that the `pub use` lines pass on. Assumes nothing.
 use mathlib.Core.Path.{_≡_, refl, ap, _∙_, sym}
 use Prim.Native.Nat.{ℕ, _+_, _-_, _≤_, _<_}
 use mathlib.Core.List.{List, [], _∷_, _++_}
@@ -33,12 +33,12 @@ pub use Rattle.origins.proofs.HostBytes.{host-some, host-most}
 pub use Rattle.origins.proofs.OriginHosts.{host-origin, origin-host-some, origin-host-most, origin-host-longest}
 pub use Rattle.origins.proofs.ExpressionTexts.{expression-range, expression-good, named-short, expression-long}
 pub use Rattle.origins.proofs.Parts.{scheme-is, scheme-self, admits-parts, admits-no-host, admits-any-host, admits-exact, admits-below, admits-default, admits-any-port, admits-number, same-parts, opaque-tuple, label-no-dot, pair-host, letter-below, pair-below, before-dot}
-pub use Rattle.origins.proofs.Plain.{expression-plain}
+pub use Rattle.origins.proofs.PlainTexts.{expression-plain}
 use Rattle.origins.proofs.Numbers.{number-most}
 use Rattle.origins.proofs.Decimals.{port-canonical, port-short}
-use Rattle.origins.proofs.Back.{Follows, text-back, origin-back}
-use Rattle.origins.proofs.Back.Follows.{nothing, colon}
-use Rattle.origins.proofs.Said.{OriginParts, origin-parts, said-empty, said-null}
+use Rattle.origins.proofs.ReadBack.{Follows, text-back, origin-back}
+use Rattle.origins.proofs.ReadBack.Follows.{nothing, colon}
+use Rattle.origins.proofs.TextParts.{OriginParts, origin-parts, said-empty, said-null}
 
 -- what follows a host, by the port that it says
 record PortSaid (k : Scheme) (m : List ℕ) (n : ℕ) : Type 0 where

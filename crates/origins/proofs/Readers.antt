@@ -1,15 +1,14 @@
 -- The whole readings of origin texts and expressions, test by test. Assumes nothing.
-use mathlib.Core.Path.{_≡_, refl, ap, _∙_, sym}
-use Prim.Native.Nat.{ℕ, _≤_, min}
-use mathlib.Core.List.{List, [], _∷_}
+use mathlib.Core.Path.{_≡_, ap, _∙_, sym}
+use Prim.Native.Nat.{ℕ, _≤_}
+use mathlib.Core.List.{List}
 use mathlib.Core.Bool.{Bool, true, false}
 use mathlib.Core.Option.{some}
 use native.Mathlib.Omega.{arith}
-use lib.ListN.{length, take, drop, length-take}
+use lib.ListN.{length, take, length-take}
 use Rattle.ascii.specs.Bytes.{pick, lower}
 use Rattle.ascii.specs.Literals
-use Rattle.ascii.specs.Texts.{each, sameBytes, sameLowered}
-use Rattle.ascii.specs.Reading.{isEmpty}
+use Rattle.ascii.specs.Texts.{sameBytes, sameLowered}
 use Rattle.ascii.proofs.Texts.{same-is}
 use Rattle.origins.specs.Origins.{schemeText, schemeSlashes, pastScheme, nullText, startsWith, tupleOf, originOf}
 use Rattle.origins.specs.Expressions.{schemeSource, startsLowered, hostSourceOf, expressionOf}

@@ -1,7 +1,7 @@
 -- Past the scheme: a host and a port, read by places of the text. Assumes nothing.
 use mathlib.Core.Path.{_≡_, refl, ap, _∙_, sym}
-use Prim.Native.Nat.{ℕ, _+_, _-_, _≤_, _<_}
-use mathlib.Core.List.{List, [], _∷_}
+use Prim.Native.Nat.{ℕ, _+_, _-_, _≤_}
+use mathlib.Core.List.{List}
 use mathlib.Core.Bool.{Bool, true, false, not}
 use mathlib.Core.Option.{Option, some, none}
 use native.Mathlib.Omega.{arith}
@@ -19,9 +19,9 @@ use Rattle.ascii.specs.Literals
 use Rattle.limits.specs.Limits.{hostBytes}
 use Rattle.origins.specs.Hosts.{labels, isLabel, isHost, isOriginHost}
 use Rattle.origins.specs.Ports.{originPort, portPartOf}
-use Rattle.origins.specs.Origins.{TupleOrigin, OriginSaid, schemeSlashes, pastScheme, startsWith, notColon, withPort, tupleOf}
-use Rattle.origins.specs.Expressions.{HostPart, SourceExpression, hostPartOf, withParts, hostSourceOf}
-use Rattle.origins.specs.Expressions.HostPart.{noHost, anyHost, exactHost, subdomainsOf}
+use Rattle.origins.specs.Origins.{schemeSlashes, pastScheme, startsWith, notColon, withPort, tupleOf}
+use Rattle.origins.specs.Expressions.{HostPart, hostPartOf, withParts, hostSourceOf}
+use Rattle.origins.specs.Expressions.HostPart.{anyHost, exactHost, subdomainsOf}
 use Rattle.origins.specs.Answers.{originAs, sourceAs}
 use Rattle.origins.specs.Steps.{digitsAs, portAs, hostAs}
 use Rattle.origins.specs.declared.Scheme.{Scheme}

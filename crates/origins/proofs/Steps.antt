@@ -1,17 +1,17 @@
 -- Steps of the readings, in the terms of the code. Assumes nothing.
 use mathlib.Core.Path.{_≡_, refl, ap, _∙_, sym}
 use Prim.Native.Nat.{ℕ, suc, _+_, _-_, _≤_, _<_, min}
-use mathlib.Core.List.{List, [], _∷_, _++_}
-use mathlib.Core.Bool.{Bool, true, false, not, _&&_}
+use mathlib.Core.List.{List, [], _∷_}
+use mathlib.Core.Bool.{Bool, true, false}
 use native.Mathlib.Omega.{arith}
 use native.Mathlib.Numerals.{add-one}
 use lib.ListN.{length, getD, take, drop, length-drop}
 use lib.Seq.{take-all, drop-cons}
-use lib.Dec.{leb, ltb, eqb}
+use lib.Dec.{leb, eqb}
 use borrow.Author.Tests.{le-leb, lt-leb, leb-true, leb-false, lt-ltb, le-ltb, eq-eqb, ne-eqb}
 use Rattle.ascii.specs.Bytes.{pick, lower}
 use Rattle.ascii.specs.Texts.{every, each, lowered, sameBy, sameBytes, sameLowered}
-use Rattle.ascii.specs.Reading.{headOf, isEmpty, next}
+use Rattle.ascii.specs.Reading.{headOf}
 use Rattle.limits.specs.Limits.{hostBytes}
 use Rattle.origins.specs.Hosts.{labels, isLabel, isHost}
 use Rattle.origins.specs.Ports.{leadsZero}

@@ -14,7 +14,6 @@ use Rattle.origins.specs.Expressions.HostPart.{noHost, anyHost, exactHos
 use Rattle.origins.specs.NormalForms.{portText}
 use Rattle.origins.specs.declared.PortText.{PortText}
 use Rattle.origins.specs.declared.Scheme.{Scheme}
-use Rattle.origins.specs.declared.PortPart.{PortPart}
 use Rattle.origins.specs.declared.TupleRange.{TupleRange}
 use Rattle.origins.specs.declared.OriginText.{OriginText}
 use Rattle.origins.specs.declared.OriginText.the-variants as text

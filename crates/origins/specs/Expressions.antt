@@ -1,7 +1,7 @@
 -- 01, "Origins and expressions": source expressions. The names are those of Content Security Policy Level 3.
 use Prim.Native.Nat.{ℕ}
 use mathlib.Core.List.{List}
-use mathlib.Core.Bool.{Bool, true, false}
+use mathlib.Core.Bool.{Bool}
 use mathlib.Core.Option.{Option, some, none}
 use lib.ListN.{length, take, drop}
 use Rattle.ascii.specs.Bytes.{pick}

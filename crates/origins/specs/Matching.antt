@@ -1,6 +1,6 @@
 -- 01, "Origins and expressions": whether an expression admits an origin, and whether two origins are the same.
 use Prim.Native.Nat.{ℕ, _-_}
-use mathlib.Core.List.{List, [], _∷_}
+use mathlib.Core.List.{List, _∷_}
 use mathlib.Core.Bool.{Bool, true, false, _&&_}
 use lib.ListN.{length, drop}
 use lib.Dec.{ltb, eqb}

@@ -1,12 +1,12 @@
 -- Origins and expressions, written as texts, are read back. Assumes nothing.
-use mathlib.Core.Path.{_≡_, refl, ap, _∙_, sym}
-use Prim.Native.Nat.{ℕ, _+_, _-_, _≤_, _<_}
+use mathlib.Core.Path.{_≡_, refl}
+use Prim.Native.Nat.{ℕ, _≤_}
 use mathlib.Core.List.{List, [], _∷_, _++_, append-nil}
-use mathlib.Core.Bool.{Bool, true, false, not, _&&_}
-use mathlib.Core.Option.{Option, some, none}
+use mathlib.Core.Bool.{Bool, true, false}
+use mathlib.Core.Option.{some}
 use native.Mathlib.Omega.{arith}
-use lib.ListN.{length, take, drop}
-use lib.Dec.{leb, eqb}
+use lib.ListN.{length}
+use lib.Dec.{eqb}
 use borrow.Author.Tests.{eqb-true, ne-eqb}
 use Rattle.limits.specs.Limits.{lastPort}
 use Rattle.ascii.specs.Bytes.{pick, lower, isDigit}
@@ -16,10 +16,10 @@ use Rattle.ascii.specs.Reading.{headOf, isEmpty, next, runOf, past}
 use Rattle.ascii.proofs.Bytes.{and-left, within-low}
 use Rattle.ascii.proofs.Texts.{every-run, every-past, every-run-whole, every-past-whole}
 use Rattle.origins.specs.Hosts.{isHost}
-use Rattle.origins.specs.Ports.{defaultPort, decimal, isNumber, leadsZero, isPort, originPort, isPortPart, portPartOf}
-use Rattle.origins.specs.Origins.{TupleOrigin, OriginSaid, schemeText, schemeSlashes, startsWith, notColon, withPort, tupleOf, originOf}
+use Rattle.origins.specs.Ports.{defaultPort, isPort, originPort, portPartOf}
+use Rattle.origins.specs.Origins.{TupleOrigin, schemeSlashes, startsWith, notColon, withPort, tupleOf, originOf}
 use Rattle.origins.specs.Origins.OriginSaid.{saysTuple}
-use Rattle.origins.specs.Expressions.{HostPart, SourceExpression, hostPartOf, withParts, schemeSource, hostSourceOf, startsLowered, expressionOf}
+use Rattle.origins.specs.Expressions.{HostPart, SourceExpression, hostPartOf, withParts, hostSourceOf, startsLowered, expressionOf}
 use Rattle.origins.specs.Expressions.HostPart.{noHost, anyHost, exactHost, subdomainsOf}
 use Rattle.origins.specs.NormalForms.{GoodPort, GoodHost, GoodExpression, GoodOrigin, portText, portPartText, expressionPartsText, expressionText, originText}
 use Rattle.origins.specs.declared.Scheme.{Scheme}

@@ -1,34 +1,31 @@
--- What a reading says of its text: the converse of reading back. Assumes nothing.
-use mathlib.Core.Path.{_≡_, refl, ap, _∙_, sym, subst}
-use Prim.Native.Nat.{ℕ, _+_, _-_, _≤_, _<_, min}
+-- The parts of a text that says an origin or is an expression: the converse of reading back. Assumes nothing.
+use mathlib.Core.Path.{_≡_, refl, ap, _∙_, sym}
+use Prim.Native.Nat.{ℕ, _≤_}
 use mathlib.Core.List.{List, [], _∷_, _++_}
-use mathlib.Core.Bool.{Bool, true, false, not, _&&_}
+use mathlib.Core.Bool.{Bool, true, false, not}
 use mathlib.Core.Option.{Option, some, none}
-use lib.ListN.{length, take, drop, length-append, length-drop, length-take, take-append-drop}
-use lib.Seq.{take-at, drop-drop, drop-append-le}
+use lib.ListN.{length, take, drop, take-append-drop}
 use lib.Dec.{eqb}
 use borrow.Author.Tests.{eqb-true}
 use Rattle.ascii.proofs.Clash.{clash}
-use Rattle.ascii.specs.Bytes.{pick, lower}
+use Rattle.ascii.specs.Bytes.{pick}
 use Rattle.ascii.specs.Literals.{text}
-use Rattle.ascii.specs.Texts.{each, lowered, sameBytes, sameLowered, partOf}
-use Rattle.ascii.specs.Reading.{isEmpty, next, runOf, past}
-use Rattle.ascii.proofs.Texts.{bytes-same, part-in}
+use Rattle.ascii.specs.Texts.{lowered, sameBytes, sameLowered}
+use Rattle.ascii.specs.Reading.{isEmpty, runOf, past}
+use Rattle.ascii.proofs.Texts.{bytes-same}
 use Rattle.ascii.proofs.Reading.{run-cut}
 use Rattle.origins.specs.Hosts.{isHost, isOriginHost}
-use Rattle.origins.specs.Ports.{decimal, isPortPart, originPort, portPartOf}
-use Rattle.origins.specs.Origins.{TupleOrigin, OriginSaid, schemeText, schemeSlashes, pastScheme, nullText, startsWith, notColon, withPort, tupleOf, originOf}
+use Rattle.origins.specs.Ports.{originPort, portPartOf}
+use Rattle.origins.specs.Origins.{TupleOrigin, schemeText, schemeSlashes, pastScheme, nullText, startsWith, notColon, withPort, tupleOf, originOf}
 use Rattle.origins.specs.Origins.OriginSaid.{saysEmpty, saysNull, saysTuple, noOrigin}
 use Rattle.origins.specs.Expressions.{HostPart, SourceExpression, hostPartOf, withParts, schemeSource, hostSourceOf, startsLowered, expressionOf}
-use Rattle.origins.specs.Expressions.HostPart.{noHost, anyHost, exactHost, subdomainsOf}
+use Rattle.origins.specs.Expressions.HostPart.{anyHost, exactHost, subdomainsOf}
 use Rattle.origins.specs.declared.Scheme.{Scheme}
 use Rattle.origins.specs.declared.Scheme.the-variants.{Http, Https}
 use Rattle.origins.specs.declared.PortPart.{PortPart}
-use Rattle.origins.specs.declared.PortPart.the-variants.{Default, Any, Number}
-use Rattle.origins.proofs.Steps.{each-length}
-use Rattle.origins.proofs.Readers.{starts-long, starts-lowered-long}
-use Rattle.origins.proofs.Back.{Follows}
-use Rattle.origins.proofs.Back.Follows.{nothing, colon}
+use Rattle.origins.proofs.Readers.{starts-lowered-long}
+use Rattle.origins.proofs.ReadBack.{Follows}
+use Rattle.origins.proofs.ReadBack.Follows.{nothing, colon}
 
 -- past a run without colons stands nothing, or a colon
 colon-follows : (l : List ℕ) → Follows (past notColon l)
