@@ -10,7 +10,7 @@ use Rattle.ascii.specs.Literals.{text}
 use Rattle.ascii.specs.Texts.{every, each, sameBy, sameBytes}
 use Rattle.ascii.specs.Reading.{headOf, isEmpty, next, runOf, past}
 use Rattle.features.specs.Features.{features, names, placeFrom, featureOf}
-use Rattle.origins.specs.Hosts.{longer, labels, isLabel, isHost}
+use Rattle.origins.specs.Computing.{computing as originsComputing}
 use Rattle.origins.specs.Ports.{decimalFrom, isNumber, isPortPart, portPartOf, leadsZero, isPort, originPort}
 use Rattle.origins.specs.Origins.{Origin, startsWith, originOf, tupleOf, withPort}
 use Rattle.origins.specs.Origins.Origin.{fresh}
@@ -97,7 +97,7 @@ rows =
     ∷ []
 
 rows-right : every right rows ≡ true
-unfolding rows every each sameBy lower pick headOf isEmpty next runOf past features names placeFrom featureOf longer labels isLabel isHost decimalFrom isNumber isPortPart portPartOf startsWith hostPartOf withParts hostSourceOf startsLowered expressionOf lastDigits portPartText expressionPartsText before cutAt nonEmpty words entries isFor furtherWords lastFor entryOf sourceMeaning meaningOf withSource hasStar hasSelf hasSrc sourcesOf listOf listOr entryElse allowedFullscreen containerPolicy
+unfolding rows every each sameBy lower pick headOf isEmpty next runOf past features names placeFrom featureOf originsComputing decimalFrom isNumber isPortPart portPartOf startsWith hostPartOf withParts hostSourceOf startsLowered expressionOf lastDigits portPartText expressionPartsText before cutAt nonEmpty words entries isFor furtherWords lastFor entryOf sourceMeaning meaningOf withSource hasStar hasSelf hasSrc sourcesOf listOf listOr entryElse allowedFullscreen containerPolicy
 rows-right = refl
 
 -- whether the container document is sandboxed, whether a sandbox attribute stands, its text, and whether the frame's document is sandboxed
@@ -162,5 +162,5 @@ asks =
     ∷ []
 
 asks-right : every askedRight asks ≡ true
-unfolding asks every each sameBy lower pick headOf isEmpty next runOf past features names placeFrom featureOf longer labels isLabel isHost decimalFrom isNumber leadsZero isPort originPort withPort tupleOf originOf isPortPart portPartOf startsWith hostPartOf withParts hostSourceOf startsLowered expressionOf endsIn portAdmits hostAdmits admitsTuple admits sameTuple sameOrigin before cutAt nonEmpty words entries isFor furtherWords lastFor entryOf sourceMeaning meaningOf withSource hasStar hasSelf hasSrc sourcesOf listOf listOr anyAdmits listAdmits entryElse allowedFullscreen containerPolicy srcOrigin unless declaredOrigin
+unfolding asks every each sameBy lower pick headOf isEmpty next runOf past features names placeFrom featureOf originsComputing decimalFrom isNumber leadsZero isPort originPort withPort tupleOf originOf isPortPart portPartOf startsWith hostPartOf withParts hostSourceOf startsLowered expressionOf endsIn portAdmits hostAdmits admitsTuple admits sameTuple sameOrigin before cutAt nonEmpty words entries isFor furtherWords lastFor entryOf sourceMeaning meaningOf withSource hasStar hasSelf hasSrc sourcesOf listOf listOr anyAdmits listAdmits entryElse allowedFullscreen containerPolicy srcOrigin unless declaredOrigin
 asks-right = refl

@@ -10,7 +10,7 @@ use Rattle.ascii.specs.Literals.{text}
 use Rattle.ascii.specs.Texts.{every, each, sameBy, sameBytes}
 use Rattle.ascii.specs.Reading.{headOf, headIs, isEmpty, next, skip, letLen, runOf, past, after, mapped, going, adding, onStep, turns}
 use Rattle.features.specs.Features.{features, names, nameOf}
-use Rattle.origins.specs.Hosts.{longer, labels, isLabel, isHost}
+use Rattle.origins.specs.Computing.{computing as originsComputing}
 use Rattle.origins.specs.Ports.{decimalFrom, isNumber, isPortPart, portPartOf}
 use Rattle.origins.specs.Origins.{startsWith}
 use Rattle.origins.specs.Expressions.{SourceExpression, hostPartOf, withParts, hostSourceOf, startsLowered, expressionOf}
@@ -86,5 +86,5 @@ rows =
     ∷ []
 
 rows-right : every right rows ≡ true
-unfolding rows every each sameBy lower pick headOf headIs isEmpty next skip letLen runOf past after mapped going adding onStep turns features names nameOf longer labels isLabel isHost decimalFrom isNumber isPortPart portPartOf startsWith hostPartOf withParts hostSourceOf startsLowered expressionOf lastDigits portPartText expressionPartsText keyOf tokenOf booleanOf bytesOf fractionOf unsignedOf numberOf stringTurn stringOf bareOf paramOf paramTurn paramsOf itemOf innerTurn innerOf closedOf listOf loneOf valueOf bareKey assignedOf memberOf partedOf dictTurn readAll dataOf plains plainly into later lastValueIn isSome tokenMeaning sourceMeaning meaningOf hasStar hasSelf withSource sourcesOf allowlist allowlistOf loneDeclares valueDeclares lastDeclares declares isMalformed
+unfolding rows every each sameBy lower pick headOf headIs isEmpty next skip letLen runOf past after mapped going adding onStep turns features names nameOf originsComputing decimalFrom isNumber isPortPart portPartOf startsWith hostPartOf withParts hostSourceOf startsLowered expressionOf lastDigits portPartText expressionPartsText keyOf tokenOf booleanOf bytesOf fractionOf unsignedOf numberOf stringTurn stringOf bareOf paramOf paramTurn paramsOf itemOf innerTurn innerOf closedOf listOf loneOf valueOf bareKey assignedOf memberOf partedOf dictTurn readAll dataOf plains plainly into later lastValueIn isSome tokenMeaning sourceMeaning meaningOf hasStar hasSelf withSource sourcesOf allowlist allowlistOf loneDeclares valueDeclares lastDeclares declares isMalformed
 rows-right = refl

@@ -1,7 +1,7 @@
--- What an expression admits, two origins, and hosts, part by part. Assumes nothing.
+-- What an expression admits, its text, two origins, and hosts, part by part. Assumes nothing.
 use mathlib.Core.Path.{_≡_, refl, _∙_, sym}
 use Prim.Native.Nat.{ℕ, _+_, _≤_}
-use mathlib.Core.List.{List, [], _∷_}
+use mathlib.Core.List.{List, [], _∷_, _++_}
 use mathlib.Core.Bool.{Bool, true, false, _&&_}
 use native.Mathlib.Omega.{arith}
 use lib.ListN.{length}
@@ -14,11 +14,12 @@ use Rattle.ascii.proofs.Bytes.{and-right}
 use Rattle.ascii.proofs.Clash.{clash}
 use Rattle.origins.specs.Hosts.{labels, isLabel, isHost}
 use Rattle.origins.specs.Ports.{defaultPort}
-use Rattle.origins.specs.Origins.{TupleOrigin}
+use Rattle.origins.specs.Origins.{TupleOrigin, schemeText, schemeSlashes}
 use Rattle.origins.specs.Origins.Origin.{tuple, opaque}
 use Rattle.origins.specs.Expressions.{SourceExpression}
 use Rattle.origins.specs.Expressions.HostPart.{noHost, anyHost, exactHost, subdomainsOf}
 use Rattle.origins.specs.Matching.{sameScheme, schemeAdmits, endsIn, portAdmits, hostAdmits, admitsTuple, admits, sameTuple, sameOrigin}
+use Rattle.origins.specs.NormalForms.{portText, portPartText, expressionPartsText, normalPort, normal, normalForm}
 use Rattle.origins.specs.declared.Scheme.{Scheme}
 use Rattle.origins.specs.declared.Scheme.the-variants.{Http, Https}
 use Rattle.origins.specs.declared.PortPart.{PortPart}
@@ -71,6 +72,46 @@ module _ (k : Scheme) (n : ℕ) where
   pub admits-number : (m : ℕ) → portAdmits (Number m) k n ≡ eqb n m
   unfolding portAdmits
   admits-number m = refl
+
+-- the text of an expression, by its host part
+module _ (k : Scheme) (p : PortPart) where
+  pub text-no-host : expressionPartsText k noHost p ≡ schemeText k
+  unfolding expressionPartsText
+  text-no-host = refl
+
+  pub text-any-host : expressionPartsText k anyHost p ≡ schemeSlashes k ++ (42 ∷ portPartText p)
+  unfolding expressionPartsText
+  text-any-host = refl
+
+  pub text-exact : (h : List ℕ) → expressionPartsText k (exactHost h) p ≡ schemeSlashes k ++ (h ++ portPartText p)
+  unfolding expressionPartsText
+  text-exact h = refl
+
+  pub text-below : (h : List ℕ) → expressionPartsText k (subdomainsOf h) p ≡ schemeSlashes k ++ (42 ∷ 46 ∷ (h ++ portPartText p))
+  unfolding expressionPartsText
+  text-below h = refl
+
+-- of a port-part
+pub text-default : portPartText Default ≡ []
+unfolding portPartText
+text-default = refl
+
+pub text-any-port : portPartText Any ≡ 58 ∷ 42 ∷ []
+unfolding portPartText
+text-any-port = refl
+
+pub text-number : (n : ℕ) → portPartText (Number n) ≡ 58 ∷ portText n
+unfolding portPartText
+text-number n = refl
+
+-- and of a normal form
+pub normal-parts : (e : SourceExpression) → normal e ≡ record { scheme = e .scheme; host = e .host; port = normalPort (e .scheme) (e .port) }
+unfolding normal
+normal-parts e = refl
+
+pub form-parts : (e : SourceExpression) → normalForm e ≡ expressionPartsText (e .scheme) (e .host) (normalPort (e .scheme) (e .port))
+unfolding normal
+form-parts e = refl
 
 -- two tuple origins, and an opaque one against a tuple
 pub same-parts : (a b : TupleOrigin) → sameOrigin (tuple a) (tuple b) ≡ sameScheme (a .scheme) (b .scheme) && sameBytes (a .host) (b .host) && eqb (a .port) (b .port)
