@@ -15,12 +15,8 @@ use Rattle.ascii.specs.Reading.{headOf, isEmpty}
 use Rattle.ascii.proofs.Bytes.{and-false, and-left, and-right, within-low, within-high}
 use Rattle.origins.specs.Ports.{decimalFrom, decimal, isNumber, leadsZero, isPortPart}
 use Rattle.origins.specs.NormalForms.{lastDigits, portText}
+use Rattle.origins.proofs.Ports.{empty-no}
 use Rattle.origins.proofs.Numbers.{decimal-grows, long-decimal, number-digits, number-most}
-
-empty-not : (xs : List ℕ) → 1 ≤ length xs → isEmpty xs ≡ false
-unfolding isEmpty
-empty-not [] h = absurd (omega arith)
-empty-not (x ∷ xs) h = refl
 
 -- the numbers of at most so many digits
 tens : ℕ → ℕ
@@ -124,7 +120,7 @@ module _ (n : ℕ) (h : n ≤ lastPort) where
 
   pub port-number : isNumber (portText n) ≡ true
   unfolding isNumber
-  port-number = rw (empty-not (portText n) port-some, port-digits, port-back, le-leb n lastPort h)
+  port-number = rw (empty-no (portText n) (λ z. omega (arith, port-some)), port-digits, port-back, le-leb n lastPort h)
 
   pub port-part : isPortPart (portText n) ≡ true
   unfolding isPortPart

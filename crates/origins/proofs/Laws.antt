@@ -36,9 +36,11 @@ pub use Rattle.origins.proofs.Parts.{scheme-is, scheme-self, admits-par
 pub use Rattle.origins.proofs.PlainTexts.{expression-plain}
 use Rattle.origins.proofs.Numbers.{number-most}
 use Rattle.origins.proofs.Decimals.{port-canonical, port-short}
-use Rattle.origins.proofs.ReadBack.{Follows, text-back, origin-back}
+pub use Rattle.origins.proofs.ReadBack.{expression-back, good-tuple}
+use Rattle.origins.proofs.ReadBack.{Follows}
 use Rattle.origins.proofs.ReadBack.Follows.{nothing, colon}
-use Rattle.origins.proofs.TextParts.{OriginParts, origin-parts, said-empty, said-null}
+pub use Rattle.origins.proofs.TextParts.{empty-text, null-text}
+use Rattle.origins.proofs.TextParts.{OriginParts, origin-parts}
 
 -- what follows a host, by the port that it says
 record PortSaid (k : Scheme) (m : List ℕ) (n : ℕ) : Type 0 where
@@ -110,25 +112,15 @@ module _ (s : List ℕ) (o : TupleOrigin) (e : originOf s ≡ saysTuple o) where
 pub text-one : (s t : List ℕ) (o : TupleOrigin) → originOf s ≡ saysTuple o → originOf t ≡ saysTuple o → s ≡ t
 text-one s t o e f = tuple-text s o e ∙ sym (tuple-text t o f)
 
--- an origin with a host and a port by document 01 is said by its text
-pub good-tuple : (o : TupleOrigin) → GoodOrigin o → originOf (originText o) ≡ saysTuple o
-good-tuple o g = origin-back o g
-
--- the empty text says "empty", and no other does
+-- the empty text says "empty"; that no other does is `empty-text`
 pub text-empty : originOf [] ≡ saysEmpty
 unfolding originOf isEmpty pick
 text-empty = refl
 
-pub empty-text : (s : List ℕ) → originOf s ≡ saysEmpty → s ≡ []
-empty-text s e = said-empty s e
-
--- `null` says "null", and no other text does
+-- `null` says "null"; that no other text does is `null-text`
 pub text-null : originOf nullText ≡ saysNull
 unfolding originOf isEmpty sameBy pick
 text-null = refl
-
-pub null-text : (s : List ℕ) → originOf s ≡ saysNull → s ≡ nullText
-null-text s e = said-null s e
 
 -- comparing tuples: alike exactly if they are the same
 tuples-is : (a b : TupleOrigin) → sameTuple a b ≡ true → a ≡ b
@@ -279,12 +271,8 @@ host-stays-good k (subdomainsOf h) p g = g
 pub normal-good : (e : SourceExpression) → GoodExpression e → GoodExpression (normal e)
 normal-good e g = record { host = unfold normal in host-stays-good (e .scheme) (e .host) (e .port) (g .host); port = unfold normal in port-stays-good (e .scheme) (e .port) (g .port) }
 
--- a good expression is read back from its text
-pub expression-back : (e : SourceExpression) → GoodExpression e → expressionOf (expressionText e) ≡ some e
-expression-back e g = text-back e g
-
 pub normal-reads : (s : List ℕ) (e : SourceExpression) → expressionOf s ≡ some e → expressionOf (normalForm e) ≡ some (normal e)
-normal-reads s e f = text-back (normal e) (normal-good e (expression-good s e f))
+normal-reads s e f = expression-back (normal e) (normal-good e (expression-good s e f))
 
 -- so normal forms are fixed points
 pub normal-fixed : (s : List ℕ) (e d : SourceExpression) → expressionOf s ≡ some e → expressionOf (normalForm e) ≡ some d → normalForm d ≡ normalForm e

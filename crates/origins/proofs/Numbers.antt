@@ -135,8 +135,8 @@ module _ (ds : List ℕ) (z : leadsZero ds ≡ false) where
     where
       go : (a b : Bool) → isNumber ds ≡ b → pick (a && b) (some (decimal ds)) none ≡ some n → (isNumber ds ≡ true) × (decimal ds ≡ n)
       go true true u f = (u, cc)
-      go true false u f = absurd (let q : _≡_ {A = ℕ} 0 1 = cc in omega arith)
-      go false b u f = absurd (let q : _≡_ {A = ℕ} 0 1 = cc in omega arith)
+      go true false u f = clash cc
+      go false b u f = clash cc
 
   pub port-none : portNumber ds ≡ none → isNumber ds ≡ false
   unfolding portNumber isPortPart pick
@@ -144,5 +144,5 @@ module _ (ds : List ℕ) (z : leadsZero ds ≡ false) where
     where
       go : (a b : Bool) → leb (length ds) portDigits ≡ a → isNumber ds ≡ b → pick (a && b) (some (decimal ds)) none ≡ none → b ≡ false
       go a false t u f = refl
-      go true true t u f = absurd (let q : _≡_ {A = ℕ} 0 1 = cc in omega arith)
+      go true true t u f = clash cc
       go false true t u f = absurd (omega (arith, long-decimal ds (leb-false (length ds) portDigits t) z (number-digits ds u), number-most ds u))

@@ -91,20 +91,20 @@ unfolding hostSourceOf withParts
 parts-back k g x p e f h =
     rw (hosted k (g ++ portPartText p), host-run g e (port-part-follows p), host-past g e (port-part-follows p), f, port-part-back p h)
 
-expression-back : (k : Scheme) (x : HostPart) (p : PortPart) → GoodHost x p → GoodPort p → expressionOf (expressionPartsText k x p) ≡ some (record { scheme = k; host = x; port = p })
+by-parts-back : (k : Scheme) (x : HostPart) (p : PortPart) → GoodHost x p → GoodPort p → expressionOf (expressionPartsText k x p) ≡ some (record { scheme = k; host = x; port = p })
 unfolding expressionPartsText
-expression-back Http noHost p g h = unfold expressionOf sameBy lower pick in rw g
-expression-back Https noHost p g h = unfold expressionOf sameBy lower pick in rw g
-expression-back k anyHost p g h = parts-back k (42 ∷ []) anyHost p (unfold every in refl) (unfold hostPartOf each sameBy lower pick in refl) h
-expression-back k (exactHost x) p g h =
+by-parts-back Http noHost p g h = unfold expressionOf sameBy lower pick in rw g
+by-parts-back Https noHost p g h = unfold expressionOf sameBy lower pick in rw g
+by-parts-back k anyHost p g h = parts-back k (42 ∷ []) anyHost p (unfold every in refl) (unfold hostPartOf each sameBy lower pick in refl) h
+by-parts-back k (exactHost x) p g h =
     parts-back k x (exactHost x) p (host-no-colon x (host-bytes x g)) (rw (host-lower x (host-bytes x g)) (host-exact-back x g)) h
-expression-back k (subdomainsOf x) p g h =
+by-parts-back k (subdomainsOf x) p g h =
     parts-back k (42 ∷ 46 ∷ x) (subdomainsOf x) p (unfold every in host-no-colon x (host-bytes x g))
     (unfold hostPartOf startsWith each sameBy lower pick in rw (host-lower x (host-bytes x g), g)) h
 
 -- a good expression is read back from its text
-pub text-back : (e : SourceExpression) → GoodExpression e → expressionOf (expressionText e) ≡ some e
-text-back e g = expression-back (e .scheme) (e .host) (e .port) (g .host) (g .port)
+pub expression-back : (e : SourceExpression) → GoodExpression e → expressionOf (expressionText e) ≡ some e
+expression-back e g = by-parts-back (e .scheme) (e .host) (e .port) (g .host) (g .port)
 
 -- the same of origins
 origin-hosted : (k : Scheme) (l : List ℕ) → originOf (schemeSlashes k ++ l) ≡ tupleOf k l
@@ -123,9 +123,9 @@ origin-port-back true k n h e = rw (eqb-true n (defaultPort k) e)
 origin-port-back false k n h e = rw (port-number n h, port-lead n h, port-back n h, e)
 
 -- a good origin is read back from its text
-pub origin-back : (o : TupleOrigin) → GoodOrigin o → originOf (originText o) ≡ saysTuple o
+pub good-tuple : (o : TupleOrigin) → GoodOrigin o → originOf (originText o) ≡ saysTuple o
 unfolding originText tupleOf withPort
-origin-back o g =
+good-tuple o g =
     let b = eqb (o .port) (defaultPort (o .scheme)) in
     let m = pick b [] (58 ∷ portText (o .port)) in
     let e : every notColon (o .host) ≡ true = origin-host-no-colon (o .host) (g .host) in

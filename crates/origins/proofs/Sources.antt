@@ -8,16 +8,14 @@ use native.Mathlib.Omega.{arith}
 use lib.ListN.{length, take, drop, length-drop, length-take}
 use borrow.Author.Tests.{not-true, not-false}
 use Rattle.ascii.proofs.Clash.{clash}
-use Rattle.ascii.specs.Bytes.{pick, lower, within}
-use Rattle.ascii.specs.Texts.{every, lowered, sameBytes}
+use Rattle.ascii.specs.Bytes.{pick, lower}
+use Rattle.ascii.specs.Texts.{lowered, sameBytes}
 use Rattle.ascii.specs.Reading.{runOf, past}
 use Rattle.ascii.specs.Places.{IsRun}
 use Rattle.ascii.specs.declared.Class.the-variants.{Not}
 use Rattle.ascii.proofs.Reading.{run-part}
-use Rattle.ascii.proofs.Bytes.{and-left, within-low}
 use Rattle.ascii.specs.Literals
-use Rattle.limits.specs.Limits.{hostBytes}
-use Rattle.origins.specs.Hosts.{labels, isLabel, isHost, isOriginHost}
+use Rattle.origins.specs.Hosts.{isHost, isOriginHost}
 use Rattle.origins.specs.Ports.{originPort, portPartOf}
 use Rattle.origins.specs.Origins.{schemeSlashes, pastScheme, startsWith, notColon, withPort, tupleOf}
 use Rattle.origins.specs.Expressions.{HostPart, hostPartOf, withParts, hostSourceOf}
@@ -36,6 +34,7 @@ use Rattle.origins.specs.declared.HostRead.the-variants as host
 use Rattle.origins.specs.declared.HostKind.the-variants as kind
 use Rattle.origins.specs.declared.Source.the-variants as source
 use Rattle.origins.proofs.Numbers.{digits-some, digits-none}
+use Rattle.origins.proofs.HostBytes.{host-some}
 use Rattle.origins.proofs.Steps.{each-length, rest-all}
 
 ports-some : (o : Option PortPart) (r : PortRead) (p : PortPart) → r ≡ portAs o → r ≡ port.Part p → o ≡ some p
@@ -104,11 +103,6 @@ no-port : (k : Scheme) (o : Option HostPart) → source.NotAnExpression ≡ sour
 unfolding withParts
 no-port k (some h) = refl
 no-port k none = refl
-
--- a host is not empty
-host-some : (h : List ℕ) → isHost h ≡ true → 1 ≤ length h
-unfolding isHost
-host-some h e = within-low 1 hostBytes (length h) (and-left (within 1 hostBytes (length h)) (every isLabel (labels h)) e)
 
 module _ (k : Scheme) (s : List ℕ) (from to : ℕ) (begins : from ≡ length (schemeSlashes k)) (inside : length (schemeSlashes k) ≤ length s) (run : IsRun (Not 58) s from to) where
   host-there : take (to - from) (drop from s) ≡ runOf notColon (drop from s)

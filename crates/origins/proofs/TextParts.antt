@@ -89,9 +89,9 @@ tuple-no-empty k l = go (isOriginHost (runOf notColon l)) (originPort k (past no
     go true none = (λ f. clash (unfold pick withPort in cc), λ f. clash (unfold pick withPort in cc))
     go false q = (λ f. clash (unfold pick in cc), λ f. clash (unfold pick in cc))
 
-pub said-empty : (s : List ℕ) → originOf s ≡ saysEmpty → s ≡ []
+pub empty-text : (s : List ℕ) → originOf s ≡ saysEmpty → s ≡ []
 unfolding originOf
-said-empty s e = go (isEmpty s) (sameBytes s nullText) (startsWith (schemeSlashes Http) s) (startsWith (schemeSlashes Https) s) refl e
+empty-text s e = go (isEmpty s) (sameBytes s nullText) (startsWith (schemeSlashes Http) s) (startsWith (schemeSlashes Https) s) refl e
   where
     go : (a b c d : Bool) → isEmpty s ≡ a → pick a saysEmpty (pick b saysNull (pick c (tupleOf Http (pastScheme Http s)) (pick d (tupleOf Https (pastScheme Https s)) noOrigin))) ≡ saysEmpty → s ≡ []
     go true b c d u f = empty-is s u
@@ -100,9 +100,9 @@ said-empty s e = go (isEmpty s) (sameBytes s nullText) (startsWith (schemeSlashe
     go false false false true u f = absurd (tuple-no-empty Https (pastScheme Https s) .0 (unfold pick in f))
     go false false false false u f = clash (unfold pick in cc)
 
-pub said-null : (s : List ℕ) → originOf s ≡ saysNull → s ≡ nullText
+pub null-text : (s : List ℕ) → originOf s ≡ saysNull → s ≡ nullText
 unfolding originOf
-said-null s e = go (isEmpty s) (sameBytes s nullText) (startsWith (schemeSlashes Http) s) (startsWith (schemeSlashes Https) s) refl e
+null-text s e = go (isEmpty s) (sameBytes s nullText) (startsWith (schemeSlashes Http) s) (startsWith (schemeSlashes Https) s) refl e
   where
     go : (a b c d : Bool) → sameBytes s nullText ≡ b → pick a saysEmpty (pick b saysNull (pick c (tupleOf Http (pastScheme Http s)) (pick d (tupleOf Https (pastScheme Https s)) noOrigin))) ≡ saysNull → s ≡ nullText
     go true b c d u f = clash (unfold pick in cc)

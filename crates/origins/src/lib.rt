@@ -514,9 +514,9 @@ fn admits_tuple(s: &[u8], e: ExpressionRange, t: &[u8], o: TupleRange) -> bool
     let host = e.host;
     let port = e.port;
     let parts = ExpressionParts { scheme, host, port };
-    let own = o.scheme;
+    let k = o.scheme;
     let origin = TupleParts {
-        scheme: own,
+        scheme: k,
         port: o.port,
     };
     let x = ascii::part(s, e.from, e.to);

@@ -1,5 +1,4 @@
 -- `expression` is right: a scheme alone and the two schemes with a host are tested in the order of the definition.
-use mathlib.Core.Path.{refl}
 use borrow.Author.Needs.{needs}
 use Rattle.origins.proofs.Readers.{starts-lowered-long, source-http, source-https, source-http-host, source-https-host, source-other}
 use Rattle.origins.proofs.expression.Statement.{statement}

@@ -1,5 +1,4 @@
 -- `host_source` is right: the run up to a colon is the host part, what is left is the port-part, and both are read as in the definition.
-use native.Mathlib.Omega.{arith}
 use borrow.Author.Needs.{needs}
 use Rattle.origins.proofs.Sources.{source-no-port, source-no-host, source-any, source-exact, source-subdomains}
 use Rattle.origins.proofs.host_source.Statement.{statement}

@@ -3,7 +3,6 @@ use borrow.Author.Needs.{needs}
 use Rattle.origins.proofs.Readers.{starts-long, origin-empty, origin-null, origin-http, origin-https, origin-other}
 use Rattle.origins.proofs.origin_text.Statement.{statement}
 use Rattle.origins.proofs.origin_text.Tie as tie
-use mathlib.Core.Path.{refl}
 
 pub origin-text-spec : {M : Type 1} → statement M
 origin-text-spec =

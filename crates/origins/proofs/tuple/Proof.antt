@@ -1,5 +1,4 @@
 -- `tuple` is right: the run up to a colon is the host, what is left is the port, and both are read as in the definition.
-use native.Mathlib.Omega.{arith}
 use borrow.Author.Needs.{needs}
 use Rattle.origins.proofs.Sources.{tuple-no-host, tuple-no-port, tuple-is}
 use Rattle.origins.proofs.tuple.Statement.{statement}
