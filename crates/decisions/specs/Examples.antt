@@ -11,7 +11,7 @@ use Rattle.ascii.specs.Literals.{text}
 use Rattle.ascii.specs.Texts.{every, each, sameBy}
 use Rattle.ascii.specs.Reading.{headOf, headIs, isEmpty, next, skip, letLen, runOf, past, after, mapped, going, adding, onStep, turns}
 use Rattle.features.specs.Features.{features, names, nameOf, defaultOf, placeFrom, featureOf}
-use Rattle.origins.specs.Hosts.{longer, labels, isLabel, isHost}
+use Rattle.origins.specs.Computing.{computing as originsComputing}
 use Rattle.origins.specs.Ports.{decimalFrom, isNumber, isPortPart, portPartOf, leadsZero, isPort, originPort}
 use Rattle.origins.specs.Origins.{Origin, OriginSaid, startsWith, originOf, tupleOf, withPort}
 use Rattle.origins.specs.Origins.Origin.{tuple, opaque, fresh}
@@ -116,7 +116,7 @@ marked =
     ∷ []
 
 marked-right : every right marked ≡ true
-unfolding marked every each sameBy lower pick headOf headIs isEmpty next skip letLen runOf past after mapped going adding onStep turns features names nameOf defaultOf placeFrom featureOf longer labels isLabel isHost decimalFrom isNumber leadsZero isPort originPort withPort tupleOf originOf isPortPart portPartOf startsWith hostPartOf withParts hostSourceOf startsLowered expressionOf endsIn portAdmits hostAdmits admitsTuple admits sameTuple sameOrigin keyOf tokenOf booleanOf bytesOf fractionOf unsignedOf numberOf stringTurn stringOf bareOf paramOf paramTurn paramsOf itemOf innerTurn innerOf closedOf listOf loneOf valueOf bareKey assignedOf memberOf partedOf dictTurn readAll dataOf plains plainly into later lastValueIn isSome tokenMeaning sourceMeaning meaningOf hasStar hasSelf withSource sourcesOf allowlist allowlistOf anyAdmits listAdmits loneDeclares valueDeclares lastDeclares declares someAdmits before cutAt nonEmpty words entries isFor furtherWords lastFor entryOf attribute.sourceMeaning attribute.meaningOf attribute.withSource attribute.hasStar attribute.hasSelf attribute.hasSrc attribute.sourcesOf attribute.listOf attribute.listOr attribute.anyAdmits attribute.listAdmits entryElse allowedFullscreen containerPolicy srcOrigin unless declaredOrigin decided unlessDisabled byList byDefault valueBy inheritedBy questionBy maskBelow attributeAdmits value inheritedFramed question valueIn questionIn inheritedIn enabledMask forecast
+unfolding marked every each sameBy lower pick headOf headIs isEmpty next skip letLen runOf past after mapped going adding onStep turns features names nameOf defaultOf placeFrom featureOf originsComputing decimalFrom isNumber leadsZero isPort originPort withPort tupleOf originOf isPortPart portPartOf startsWith hostPartOf withParts hostSourceOf startsLowered expressionOf endsIn portAdmits hostAdmits admitsTuple admits sameTuple sameOrigin keyOf tokenOf booleanOf bytesOf fractionOf unsignedOf numberOf stringTurn stringOf bareOf paramOf paramTurn paramsOf itemOf innerTurn innerOf closedOf listOf loneOf valueOf bareKey assignedOf memberOf partedOf dictTurn readAll dataOf plains plainly into later lastValueIn isSome tokenMeaning sourceMeaning meaningOf hasStar hasSelf withSource sourcesOf allowlist allowlistOf anyAdmits listAdmits loneDeclares valueDeclares lastDeclares declares someAdmits before cutAt nonEmpty words entries isFor furtherWords lastFor entryOf attribute.sourceMeaning attribute.meaningOf attribute.withSource attribute.hasStar attribute.hasSelf attribute.hasSrc attribute.sourcesOf attribute.listOf attribute.listOr attribute.anyAdmits attribute.listAdmits entryElse allowedFullscreen containerPolicy srcOrigin unless declaredOrigin decided unlessDisabled byList byDefault valueBy inheritedBy questionBy maskBelow attributeAdmits value inheritedFramed question valueIn questionIn inheritedIn enabledMask forecast
 marked-right = refl
 
 rest : List Row
@@ -152,7 +152,7 @@ rest =
     ∷ []
 
 rest-right : every right rest ≡ true
-unfolding rest every each sameBy lower pick headOf headIs isEmpty next skip letLen runOf past after mapped going adding onStep turns features names nameOf defaultOf placeFrom featureOf longer labels isLabel isHost decimalFrom isNumber leadsZero isPort originPort withPort tupleOf originOf isPortPart portPartOf startsWith hostPartOf withParts hostSourceOf startsLowered expressionOf endsIn portAdmits hostAdmits admitsTuple admits sameTuple sameOrigin keyOf tokenOf booleanOf bytesOf fractionOf unsignedOf numberOf stringTurn stringOf bareOf paramOf paramTurn paramsOf itemOf innerTurn innerOf closedOf listOf loneOf valueOf bareKey assignedOf memberOf partedOf dictTurn readAll dataOf plains plainly into later lastValueIn isSome tokenMeaning sourceMeaning meaningOf hasStar hasSelf withSource sourcesOf allowlist allowlistOf anyAdmits listAdmits loneDeclares valueDeclares lastDeclares declares someAdmits before cutAt nonEmpty words entries isFor furtherWords lastFor entryOf attribute.sourceMeaning attribute.meaningOf attribute.withSource attribute.hasStar attribute.hasSelf attribute.hasSrc attribute.sourcesOf attribute.listOf attribute.listOr attribute.anyAdmits attribute.listAdmits entryElse allowedFullscreen containerPolicy srcOrigin unless declaredOrigin decided unlessDisabled byList byDefault valueBy inheritedBy questionBy maskBelow attributeAdmits value inheritedFramed question valueIn questionIn inheritedIn enabledMask forecast
+unfolding rest every each sameBy lower pick headOf headIs isEmpty next skip letLen runOf past after mapped going adding onStep turns features names nameOf defaultOf placeFrom featureOf originsComputing decimalFrom isNumber leadsZero isPort originPort withPort tupleOf originOf isPortPart portPartOf startsWith hostPartOf withParts hostSourceOf startsLowered expressionOf endsIn portAdmits hostAdmits admitsTuple admits sameTuple sameOrigin keyOf tokenOf booleanOf bytesOf fractionOf unsignedOf numberOf stringTurn stringOf bareOf paramOf paramTurn paramsOf itemOf innerTurn innerOf closedOf listOf loneOf valueOf bareKey assignedOf memberOf partedOf dictTurn readAll dataOf plains plainly into later lastValueIn isSome tokenMeaning sourceMeaning meaningOf hasStar hasSelf withSource sourcesOf allowlist allowlistOf anyAdmits listAdmits loneDeclares valueDeclares lastDeclares declares someAdmits before cutAt nonEmpty words entries isFor furtherWords lastFor entryOf attribute.sourceMeaning attribute.meaningOf attribute.withSource attribute.hasStar attribute.hasSelf attribute.hasSrc attribute.sourcesOf attribute.listOf attribute.listOr attribute.anyAdmits attribute.listAdmits entryElse allowedFullscreen containerPolicy srcOrigin unless declaredOrigin decided unlessDisabled byList byDefault valueBy inheritedBy questionBy maskBelow attributeAdmits value inheritedFramed question valueIn questionIn inheritedIn enabledMask forecast
 rest-right = refl
 
 -- the ten with default * are worth 64908, all seventeen 131071, camera 1, usb 65536
@@ -169,5 +169,5 @@ numbers =
     ∷ []
 
 numbers-right : every right numbers ≡ true
-unfolding numbers every each sameBy lower pick headOf headIs isEmpty next skip letLen runOf past after mapped going adding onStep turns features names nameOf defaultOf placeFrom featureOf longer labels isLabel isHost decimalFrom isNumber leadsZero isPort originPort withPort tupleOf originOf isPortPart portPartOf startsWith hostPartOf withParts hostSourceOf startsLowered expressionOf endsIn portAdmits hostAdmits admitsTuple admits sameTuple sameOrigin keyOf tokenOf booleanOf bytesOf fractionOf unsignedOf numberOf stringTurn stringOf bareOf paramOf paramTurn paramsOf itemOf innerTurn innerOf closedOf listOf loneOf valueOf bareKey assignedOf memberOf partedOf dictTurn readAll dataOf plains plainly into later lastValueIn isSome tokenMeaning sourceMeaning meaningOf hasStar hasSelf withSource sourcesOf allowlist allowlistOf anyAdmits listAdmits loneDeclares valueDeclares lastDeclares declares someAdmits before cutAt nonEmpty words entries isFor furtherWords lastFor entryOf attribute.sourceMeaning attribute.meaningOf attribute.withSource attribute.hasStar attribute.hasSelf attribute.hasSrc attribute.sourcesOf attribute.listOf attribute.listOr attribute.anyAdmits attribute.listAdmits entryElse allowedFullscreen containerPolicy srcOrigin unless declaredOrigin decided unlessDisabled byList byDefault valueBy inheritedBy questionBy maskBelow attributeAdmits value inheritedFramed question valueIn questionIn inheritedIn enabledMask forecast
+unfolding numbers every each sameBy lower pick headOf headIs isEmpty next skip letLen runOf past after mapped going adding onStep turns features names nameOf defaultOf placeFrom featureOf originsComputing decimalFrom isNumber leadsZero isPort originPort withPort tupleOf originOf isPortPart portPartOf startsWith hostPartOf withParts hostSourceOf startsLowered expressionOf endsIn portAdmits hostAdmits admitsTuple admits sameTuple sameOrigin keyOf tokenOf booleanOf bytesOf fractionOf unsignedOf numberOf stringTurn stringOf bareOf paramOf paramTurn paramsOf itemOf innerTurn innerOf closedOf listOf loneOf valueOf bareKey assignedOf memberOf partedOf dictTurn readAll dataOf plains plainly into later lastValueIn isSome tokenMeaning sourceMeaning meaningOf hasStar hasSelf withSource sourcesOf allowlist allowlistOf anyAdmits listAdmits loneDeclares valueDeclares lastDeclares declares someAdmits before cutAt nonEmpty words entries isFor furtherWords lastFor entryOf attribute.sourceMeaning attribute.meaningOf attribute.withSource attribute.hasStar attribute.hasSelf attribute.hasSrc attribute.sourcesOf attribute.listOf attribute.listOr attribute.anyAdmits attribute.listAdmits entryElse allowedFullscreen containerPolicy srcOrigin unless declaredOrigin decided unlessDisabled byList byDefault valueBy inheritedBy questionBy maskBelow attributeAdmits value inheritedFramed question valueIn questionIn inheritedIn enabledMask forecast
 numbers-right = refl

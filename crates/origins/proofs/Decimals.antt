@@ -1,12 +1,12 @@
 -- Numbers written in decimal are read back, and digits without a leading zero are what their number is written as. Assumes nothing.
-use mathlib.Core.Path.{_≡_, refl, ap, _∙_, sym}
+use mathlib.Core.Path.{_≡_, refl, ap, _∙_}
 use Prim.Native.Nat.{ℕ, zero, suc, _+_, _-_, _*_, _/_, _%_, _≤_, _<_}
 use mathlib.Core.List.{List, [], _∷_, _++_}
-use mathlib.Core.Bool.{Bool, true, false, not, _&&_}
+use mathlib.Core.Bool.{Bool, true, false, _&&_}
 use native.Mathlib.Omega.{arith}
 use lib.ListN.{length, length-append}
 use lib.Dec.{leb, ltb, eqb}
-use borrow.Author.Tests.{leb-true, leb-false, lt-ltb, le-ltb, ltb-true, ltb-false, le-leb, eq-eqb, ne-eqb, eqb-false}
+use borrow.Author.Tests.{leb-true, leb-false, lt-ltb, le-ltb, ltb-true, ltb-false, le-leb, ne-eqb, eqb-false}
 use Rattle.ascii.proofs.Clash.{clash}
 use Rattle.limits.specs.Limits.{lastPort, portDigits}
 use Rattle.ascii.specs.Bytes.{pick, isDigit}
@@ -15,12 +15,8 @@ use Rattle.ascii.specs.Reading.{headOf, isEmpty}
 use Rattle.ascii.proofs.Bytes.{and-false, and-left, and-right, within-low, within-high}
 use Rattle.origins.specs.Ports.{decimalFrom, decimal, isNumber, leadsZero, isPortPart}
 use Rattle.origins.specs.NormalForms.{lastDigits, portText}
+use Rattle.origins.proofs.Ports.{empty-no}
 use Rattle.origins.proofs.Numbers.{decimal-grows, long-decimal, number-digits, number-most}
-
-empty-not : (xs : List ℕ) → 1 ≤ length xs → isEmpty xs ≡ false
-unfolding isEmpty
-empty-not [] h = absurd (omega arith)
-empty-not (x ∷ xs) h = refl
 
 -- the numbers of at most so many digits
 tens : ℕ → ℕ
@@ -124,7 +120,7 @@ module _ (n : ℕ) (h : n ≤ lastPort) where
 
   pub port-number : isNumber (portText n) ≡ true
   unfolding isNumber
-  port-number = rw (empty-not (portText n) port-some, port-digits, port-back, le-leb n lastPort h)
+  port-number = rw (empty-no (portText n) (λ z. omega (arith, port-some)), port-digits, port-back, le-leb n lastPort h)
 
   pub port-part : isPortPart (portText n) ≡ true
   unfolding isPortPart

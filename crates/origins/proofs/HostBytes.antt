@@ -1,7 +1,7 @@
 -- The bytes of a host: letters in lower case, digits, hyphens and dots. Assumes nothing.
-use mathlib.Core.Path.{_≡_, refl, ap, _∙_, sym}
+use mathlib.Core.Path.{_≡_, refl, _∙_, sym}
 use mathlib.Core.Logic.{⊎-elim}
-use Prim.Native.Nat.{ℕ, _+_, _≤_, _<_}
+use Prim.Native.Nat.{ℕ, _≤_, _<_}
 use mathlib.Core.List.{List, [], _∷_}
 use mathlib.Core.Bool.{Bool, true, false, not, _&&_, _||_}
 use native.Mathlib.Omega.{arith}
@@ -10,7 +10,7 @@ use lib.Dec.{leb, eqb}
 use borrow.Author.Tests.{eqb-true, ne-eqb, lt-leb, le-leb}
 use Rattle.ascii.proofs.Clash.{clash}
 use Rattle.limits.specs.Limits.{hostBytes}
-use Rattle.ascii.specs.Bytes.{pick, within, isDigit, isLower, isUpper, isLabelByte, isText, lower}
+use Rattle.ascii.specs.Bytes.{pick, within, isDigit, isLower, isLabelByte, isText, lower}
 use Rattle.ascii.specs.Texts.{every, each, lowered}
 use Rattle.ascii.proofs.Bytes.{and-false, or-cases, and-left, and-right, within-low, within-high}
 use Rattle.origins.specs.Hosts.{labels, isLabel, isHost}

@@ -1,12 +1,10 @@
 -- An expression's host part, in any case: the steps of the code. Assumes nothing.
 use mathlib.Core.Path.{_≡_, refl, ap, _∙_, sym}
-use Prim.Native.Nat.{ℕ, zero, suc, _-_, _≤_, _<_}
+use Prim.Native.Nat.{ℕ, zero, suc, _≤_, _<_}
 use mathlib.Core.List.{List, [], _∷_}
 use mathlib.Core.Bool.{Bool, true, false}
-use mathlib.Core.Option.{some, none}
 use native.Mathlib.Omega.{arith}
 use lib.ListN.{length, take, drop, drop-of-length-le}
-use lib.Seq.{take-nil, drop-nil}
 use lib.Dec.{leb}
 use borrow.Author.Tests.{leb-true, leb-false}
 use Rattle.ascii.specs.Bytes.{pick, lower}
@@ -15,8 +13,7 @@ use Rattle.ascii.specs.Texts.{each, lowered, sameBytes, sameLowered, partOf}
 use Rattle.ascii.proofs.Texts.{same-each, part-in, part-turned}
 use Rattle.origins.specs.Hosts.{isHost}
 use Rattle.origins.specs.Origins.{startsWith}
-use Rattle.origins.specs.Expressions.{HostPart, hostPartOf, startsLowered}
-use Rattle.origins.specs.Expressions.HostPart.{anyHost, exactHost, subdomainsOf}
+use Rattle.origins.specs.Expressions.{hostPartOf, startsLowered}
 use Rattle.origins.specs.Steps.{fold, hostAs}
 use Rattle.origins.specs.declared.HostRead.the-variants as host
 use Rattle.origins.proofs.Steps.{each-any, rest-all}

@@ -1,45 +1,46 @@
--- The laws of origins and expressions, for the crates above: nothing there opens a definition of this crate. Assumes nothing.
-use mathlib.Core.Path.{_≡_, refl, ap, _∙_, sym, subst}
+-- The laws of origins and expressions that the crates above cite: these, and those that the `pub use` lines pass on. Assumes nothing.
+use mathlib.Core.Path.{_≡_, refl, ap, _∙_, sym}
 use Prim.Native.Nat.{ℕ, _+_, _-_, _≤_, _<_}
-use mathlib.Core.List.{List, [], _∷_, _++_, append-assoc}
+use mathlib.Core.List.{List, [], _∷_, _++_}
 use mathlib.Core.Bool.{Bool, true, false, not, _&&_}
-use mathlib.Core.Option.{Option, some, none}
+use mathlib.Core.Option.{some, none}
 use native.Mathlib.Omega.{arith}
-use lib.ListN.{length, take, drop, length-append, length-drop, length-take, take-append-drop}
-use lib.Seq.{take-at, drop-at, drop-drop, drop-append-le}
-use lib.Dec.{leb, ltb, eqb}
-use borrow.Author.Tests.{eqb-true, eqb-false, eq-eqb, ltb-true, lt-ltb, not-true}
+use lib.ListN.{length, take, drop, length-append, length-take, take-append-drop}
+use lib.Seq.{take-at, drop-at}
+use lib.Dec.{ltb, eqb}
+use borrow.Author.Tests.{eqb-true, eq-eqb, ltb-true, lt-ltb, not-true}
 use Rattle.ascii.proofs.Clash.{clash}
-use Rattle.limits.specs.Limits.{lastPort, hostBytes, portDigits}
-use Rattle.ascii.specs.Bytes.{pick, lower}
-use Rattle.ascii.specs.Literals.{text}
-use Rattle.ascii.specs.Texts.{each, lowered, sameBy, sameBytes, partOf}
-use Rattle.ascii.specs.Reading.{isEmpty, next, runOf, past}
+use Rattle.limits.specs.Limits.{lastPort, portDigits}
+use Rattle.ascii.specs.Bytes.{pick}
+use Rattle.ascii.specs.Texts.{sameBy, sameBytes, partOf}
+use Rattle.ascii.specs.Reading.{isEmpty, next}
 use Rattle.ascii.proofs.Bytes.{and-left, and-right}
 use Rattle.ascii.proofs.Texts.{bytes-same, same-bytes, part-in}
-use Rattle.ascii.proofs.Reading.{run-cut}
-use Rattle.origins.specs.Hosts.{isHost}
-use Rattle.origins.specs.Ports.{defaultPort, decimal, isNumber, leadsZero, isPort, originPort, isPortPart, portPartOf}
-use Rattle.origins.specs.Origins.{TupleOrigin, Origin, OriginSaid, schemeSlashes, nullText, notColon, originOf}
+use Rattle.origins.specs.Ports.{defaultPort, decimal, isNumber, leadsZero, isPort, originPort}
+use Rattle.origins.specs.Origins.{TupleOrigin, Origin, schemeSlashes, nullText, originOf}
 use Rattle.origins.specs.Origins.Origin.{tuple, opaque, fresh}
-use Rattle.origins.specs.Origins.OriginSaid.{saysEmpty, saysNull, saysTuple, noOrigin}
-use Rattle.origins.specs.Expressions.{HostPart, SourceExpression, hostPartOf, schemeSource, expressionOf}
+use Rattle.origins.specs.Origins.OriginSaid.{saysEmpty, saysNull, saysTuple}
+use Rattle.origins.specs.Expressions.{HostPart, SourceExpression, expressionOf}
 use Rattle.origins.specs.Expressions.HostPart.{noHost, anyHost, exactHost, subdomainsOf}
 use Rattle.origins.specs.Matching.{sameScheme, endsIn, portAdmits, hostAdmits, admitsTuple, admits, sameTuple, sameOrigin}
 use Rattle.origins.specs.NormalForms.{GoodPort, GoodHost, GoodExpression, GoodOrigin, portText, originText, originBytes, normalPort, normal, normalForm, expressionText, sameHost, samePort, sameExpression}
-use Rattle.origins.specs.Answers.{tupleRange, tupleIn, hostKind, hostFrom, hostTo, hostIn, expressionRange, expressionIn}
+use Rattle.origins.specs.Answers.{tupleRange, tupleIn}
 use Rattle.origins.specs.declared.Scheme.{Scheme}
 use Rattle.origins.specs.declared.Scheme.the-variants.{Http, Https}
 use Rattle.origins.specs.declared.PortPart.{PortPart}
 use Rattle.origins.specs.declared.PortPart.the-variants.{Default, Any, Number}
-use Rattle.origins.proofs.Steps.{each-length}
-use Rattle.origins.proofs.HostParts.{each-drop}
-use Rattle.origins.proofs.HostBytes.{host-some, host-most}
+pub use Rattle.origins.proofs.HostBytes.{host-some, host-most}
+pub use Rattle.origins.proofs.OriginHosts.{host-origin, origin-host-some, origin-host-most, origin-host-longest}
+pub use Rattle.origins.proofs.ExpressionTexts.{expression-range, expression-good, named-short, expression-long}
+pub use Rattle.origins.proofs.Parts.{scheme-is, scheme-self, admits-parts, admits-no-host, admits-any-host, admits-exact, admits-below, admits-default, admits-any-port, admits-number, text-no-host, text-any-host, text-exact, text-below, text-default, text-any-port, text-number, normal-parts, form-parts, same-parts, opaque-tuple, label-no-dot, pair-host, letter-below, pair-below, before-dot}
+pub use Rattle.origins.proofs.PlainTexts.{expression-plain}
 use Rattle.origins.proofs.Numbers.{number-most}
 use Rattle.origins.proofs.Decimals.{port-canonical, port-short}
-use Rattle.origins.proofs.Back.{Follows, text-back, origin-back}
-use Rattle.origins.proofs.Back.Follows.{nothing, colon}
-use Rattle.origins.proofs.Said.{OriginParts, origin-parts, said-empty, said-null, host-cases, SourceParts, source-cases}
+pub use Rattle.origins.proofs.ReadBack.{expression-back, good-tuple}
+use Rattle.origins.proofs.ReadBack.{Follows}
+use Rattle.origins.proofs.ReadBack.Follows.{nothing, colon}
+pub use Rattle.origins.proofs.TextParts.{empty-text, null-text}
+use Rattle.origins.proofs.TextParts.{OriginParts, origin-parts}
 
 -- what follows a host, by the port that it says
 record PortSaid (k : Scheme) (m : List ℕ) (n : ℕ) : Type 0 where
@@ -101,7 +102,7 @@ module _ (s : List ℕ) (o : TupleOrigin) (e : originOf s ≡ saysTuple o) where
   -- and its text is at most 267 bytes long
   pub tuple-length : length s ≤ originBytes
   tuple-length =
-      omega (arith, ap length (parts .is), length-append (schemeSlashes (o .scheme)) (o .host ++ parts .rest), length-append (o .host) (parts .rest), slashes-most (o .scheme), host-most (o .host) (parts .host), said .short)
+      omega (arith, ap length (parts .is), length-append (schemeSlashes (o .scheme)) (o .host ++ parts .rest), length-append (o .host) (parts .rest), slashes-most (o .scheme), origin-host-most (o .host) (parts .host), said .short)
 
   -- the range that the code answers stands for the origin
   pub tuple-range : tupleIn s (tupleRange o) ≡ o
@@ -111,37 +112,17 @@ module _ (s : List ℕ) (o : TupleOrigin) (e : originOf s ≡ saysTuple o) where
 pub text-one : (s t : List ℕ) (o : TupleOrigin) → originOf s ≡ saysTuple o → originOf t ≡ saysTuple o → s ≡ t
 text-one s t o e f = tuple-text s o e ∙ sym (tuple-text t o f)
 
--- an origin with a host and a port by document 01 is said by its text
-pub good-tuple : (o : TupleOrigin) → GoodOrigin o → originOf (originText o) ≡ saysTuple o
-good-tuple o g = origin-back o g
-
--- the empty text says "empty", and no other does
+-- the empty text says "empty"; that no other does is `empty-text`
 pub text-empty : originOf [] ≡ saysEmpty
 unfolding originOf isEmpty pick
 text-empty = refl
 
-pub empty-text : (s : List ℕ) → originOf s ≡ saysEmpty → s ≡ []
-empty-text s e = said-empty s e
-
--- `null` says "null", and no other text does
+-- `null` says "null"; that no other text does is `null-text`
 pub text-null : originOf nullText ≡ saysNull
 unfolding originOf isEmpty sameBy pick
 text-null = refl
 
-pub null-text : (s : List ℕ) → originOf s ≡ saysNull → s ≡ nullText
-null-text s e = said-null s e
-
 -- comparing tuples: alike exactly if they are the same
-scheme-is : (k j : Scheme) → sameScheme k j ≡ true → k ≡ j
-scheme-is Http Http e = refl
-scheme-is Http Https e = clash cc
-scheme-is Https Http e = clash cc
-scheme-is Https Https e = refl
-
-scheme-self : (k : Scheme) → sameScheme k k ≡ true
-scheme-self Http = refl
-scheme-self Https = refl
-
 tuples-is : (a b : TupleOrigin) → sameTuple a b ≡ true → a ≡ b
 unfolding sameTuple
 tuples-is a b e =
@@ -226,74 +207,6 @@ before-ends b t h =
     let n : length (b ++ t) ≡ length b + length t = length-append b t in
     rw (lt-ltb (length t) (length (b ++ t)) (omega arith), drop-at b t (length (b ++ t) - length t) (omega arith)) (same-bytes t)
 
--- a part of a text that stands `i` bytes into what is known to stand at `n`
-part-run : (s : List ℕ) (n i : ℕ) (r t : List ℕ) → n ≤ length s → drop n s ≡ r ++ t → i ≤ length r → partOf s (n + i) (n + i + length (drop i r)) ≡ drop i r
-part-run s n i r t h e g =
-    let a : length s - n ≡ length r + length t = sym (length-drop n s) ∙ ap length e ∙ length-append r t in
-    let b : length (drop i r) ≡ length r - i = length-drop i r in
-    let m = length (drop i r) in
-    let p : take (n + i + m - (n + i)) (drop (n + i) s) ≡ partOf s (n + i) (n + i + m) = part-in s (n + i) (n + i + m) (omega arith) (omega arith) in
-    let q : drop (n + i) s ≡ drop i r ++ t = sym (drop-drop i n s) ∙ ap (drop i) e ∙ drop-append-le i r t g in
-    sym p ∙ ap (take (n + i + m - (n + i))) q ∙ take-at (drop i r) t (n + i + m - (n + i)) (omega arith)
-
--- the range that the code answers stands for the host part
-host-range : (k : Scheme) (s : List ℕ) (x : HostPart) → length (schemeSlashes k) ≤ length s → hostPartOf (lowered (runOf notColon (drop (length (schemeSlashes k)) s))) ≡ some x → hostIn (hostKind x) (lowered (partOf s (hostFrom k x) (hostTo k x))) ≡ x
-host-range k s x h e = host-cases (lowered r) x e (hostIn (hostKind x) (lowered (partOf s (hostFrom k x) (hostTo k x))) ≡ x) any exact below
-  where
-    n : ℕ
-    n = length (schemeSlashes k)
-
-    r : List ℕ
-    r = runOf notColon (drop n s)
-
-    any : x ≡ anyHost → hostIn (hostKind x) (lowered (partOf s (hostFrom k x) (hostTo k x))) ≡ x
-    any f = rw f
-
-    exact : isHost (lowered r) ≡ true → x ≡ exactHost (lowered r) → hostIn (hostKind x) (lowered (partOf s (hostFrom k x) (hostTo k x))) ≡ x
-    exact g f =
-        let u : n + 0 ≡ n = omega arith in
-        let v : length (lowered r) ≡ length r = each-length lower r in
-        let w : partOf s (n + 0) (n + 0 + length r) ≡ r = part-run s n 0 r (past notColon (drop n s)) h (run-cut notColon (drop n s)) (omega arith) in
-        rw (f, v) (ap (λ (l : List ℕ). exactHost (lowered l)) (rw u at w))
-
-    below : isHost (drop 2 (lowered r)) ≡ true → x ≡ subdomainsOf (drop 2 (lowered r)) → hostIn (hostKind x) (lowered (partOf s (hostFrom k x) (hostTo k x))) ≡ x
-    below g f =
-        let d : drop 2 (lowered r) ≡ lowered (drop 2 r) = sym (each-drop lower 2 r) in
-        let v : length (lowered (drop 2 r)) ≡ length (drop 2 r) = each-length lower (drop 2 r) in
-        let m : length (drop 2 r) ≡ length r - 2 = length-drop 2 r in
-        let i : 1 ≤ length (lowered (drop 2 r)) = rw d at (host-some (drop 2 (lowered r)) g) in
-        rw (f, d, v) (ap (λ (l : List ℕ). subdomainsOf (lowered l)) (part-run s n 2 r (past notColon (drop n s)) h (run-cut notColon (drop n s)) (omega arith)))
-
--- the range that the code answers stands for the expression
-pub expression-range : (s : List ℕ) (e : SourceExpression) → expressionOf s ≡ some e → expressionIn s (expressionRange e) ≡ e
-expression-range s e f =
-    source-cases s e f (expressionIn s (expressionRange e) ≡ e) (λ k g. rw g)
-    (λ p. ap {B = SourceExpression} (λ (x : HostPart). record { scheme = e .scheme; host = x; port = e .port }) (host-range (e .scheme) s (e .host) (p .long) (p .host)))
-
--- an expression that a text is has a host and a port by document 01
-port-good : (l : List ℕ) (p : PortPart) (a b c : Bool) → isPortPart l ≡ c → pick a (some Default) (pick b (some Any) (pick c (some (Number (decimal l))) none)) ≡ some p → GoodPort p
-unfolding pick
-port-good l p true b c u e = let q : Default ≡ p = cc in subst (λ (x : PortPart). GoodPort x) q tt
-port-good l p false true c u e = let q : Any ≡ p = cc in subst (λ (x : PortPart). GoodPort x) q tt
-port-good l p false false true u e =
-    let q : Number (decimal l) ≡ p = cc in
-    subst (λ (x : PortPart). GoodPort x) q (number-most l (and-right (leb (length l) portDigits) (isNumber l) (unfold isPortPart in u)))
-port-good l p false false false u e = clash cc
-
-part-good : (l : List ℕ) (p : PortPart) → portPartOf l ≡ some p → GoodPort p
-unfolding portPartOf next
-part-good l p e = port-good (drop 1 l) p (isEmpty l) (sameBytes (drop 1 l) (text "*")) (isPortPart (drop 1 l)) refl e
-
-host-good : (g : List ℕ) (x : HostPart) (p : PortPart) → hostPartOf g ≡ some x → GoodHost x p
-host-good g x p e =
-    host-cases g x e (GoodHost x p) (λ f. subst (λ (y : HostPart). GoodHost y p) (sym f) tt)
-    (λ h f. subst (λ (y : HostPart). GoodHost y p) (sym f) h) (λ h f. subst (λ (y : HostPart). GoodHost y p) (sym f) h)
-
-pub expression-good : (s : List ℕ) (e : SourceExpression) → expressionOf s ≡ some e → GoodExpression e
-expression-good s e f =
-    source-cases s e f (GoodExpression e) (λ k g. subst (λ (y : SourceExpression). GoodExpression y) (sym g) (record { host = refl; port = tt }))
-    (λ p. record { host = host-good (lowered (runOf notColon (drop (length (schemeSlashes (e .scheme))) s))) (e .host) (e .port) (p .host); port = part-good (past notColon (drop (length (schemeSlashes (e .scheme))) s)) (e .port) (p .port) })
-
 -- the default port dropped: the same origins are admitted
 port-normal : (k : Scheme) (p : PortPart) (n : ℕ) → portAdmits (normalPort k p) k n ≡ portAdmits p k n
 unfolding portAdmits normalPort
@@ -358,12 +271,8 @@ host-stays-good k (subdomainsOf h) p g = g
 pub normal-good : (e : SourceExpression) → GoodExpression e → GoodExpression (normal e)
 normal-good e g = record { host = unfold normal in host-stays-good (e .scheme) (e .host) (e .port) (g .host); port = unfold normal in port-stays-good (e .scheme) (e .port) (g .port) }
 
--- a good expression is read back from its text
-pub expression-back : (e : SourceExpression) → GoodExpression e → expressionOf (expressionText e) ≡ some e
-expression-back e g = text-back e g
-
 pub normal-reads : (s : List ℕ) (e : SourceExpression) → expressionOf s ≡ some e → expressionOf (normalForm e) ≡ some (normal e)
-normal-reads s e f = text-back (normal e) (normal-good e (expression-good s e f))
+normal-reads s e f = expression-back (normal e) (normal-good e (expression-good s e f))
 
 -- so normal forms are fixed points
 pub normal-fixed : (s : List ℕ) (e d : SourceExpression) → expressionOf s ≡ some e → expressionOf (normalForm e) ≡ some d → normalForm d ≡ normalForm e

@@ -8,9 +8,12 @@ pub mod Readers
 pub mod Matches
 pub mod Decimals
 pub mod HostBytes
-pub mod Back
-pub mod Said
-pub mod Laws
+pub mod OriginHosts
+pub mod ReadBack
+pub mod TextParts
+pub mod ExpressionTexts
+pub mod Parts
 pub mod PortTexts
-pub mod Normals
-pub mod Plain
+pub mod NormalForms
+pub mod PlainTexts
+pub mod Laws

@@ -1,60 +1,65 @@
--- Matching and comparing origins, case by case, over ranges of texts. Assumes nothing.
-use mathlib.Core.Path.{_≡_, refl, ap, _∙_, sym}
+-- Matching by parts and comparing origins, case by case, as the code does. Assumes nothing.
+use mathlib.Core.Path.{_≡_}
 use Prim.Native.Nat.{ℕ}
 use mathlib.Core.List.{List, _∷_}
-use mathlib.Core.Bool.{Bool, true, false, not, _&&_}
+use mathlib.Core.Bool.{Bool, true, false, not}
 use lib.Dec.{eqb}
 use borrow.Author.Tests.{not-true, not-false}
-use Rattle.ascii.specs.Bytes.{lower}
-use Rattle.ascii.specs.Texts.{lowered, sameBytes, sameLowered, partOf}
-use Rattle.ascii.proofs.Texts.{same-each}
-use Rattle.origins.specs.Matching.{sameScheme, endsIn, portAdmits, hostAdmits, admitsTuple, admits, sameTuple, sameOrigin}
-use Rattle.origins.specs.Answers.{expressionIn, tupleIn, originIn}
+use Rattle.ascii.specs.Texts.{each, sameBytes, partOf}
+use Rattle.origins.specs.Matching.{sameScheme, schemeAdmits, endsIn, portAdmits, hostAdmits, admitsTuple, admits, sameTuple, sameOrigin}
+use Rattle.origins.specs.Answers.{hostIn, expressionIn, tupleIn, originIn, expressionBy, tupleBy}
+use Rattle.origins.specs.Steps.{fold}
+use Rattle.origins.specs.declared.ExpressionParts.{ExpressionParts}
+use Rattle.origins.specs.declared.TupleParts.{TupleParts}
 use Rattle.origins.specs.declared.TupleRange.{TupleRange}
 use Rattle.origins.specs.declared.ExpressionRange.{ExpressionRange}
 use Rattle.origins.specs.declared.OriginRange.{OriginRange}
 use Rattle.origins.specs.declared.OriginRange.the-variants as range
 use Rattle.origins.specs.declared.HostKind.the-variants as kind
+use Rattle.origins.proofs.Steps.{each-any, each-as-is}
 
-module _ (s t : List ℕ) (e : ExpressionRange) (o : TupleRange) (a : Bool) (u : a ≡ sameScheme (e .scheme) (o .scheme)) where
-  pub match-scheme : not a ≡ true → false ≡ admitsTuple (expressionIn s e) (tupleIn t o)
+-- an expression and an origin by their parts
+module _ (e : ExpressionParts) (o : TupleParts) (x h : List ℕ) (a : Bool) (u : a ≡ schemeAdmits (e .scheme) (o .scheme)) where
+  pub match-scheme : not a ≡ true → false ≡ admitsTuple (expressionBy e x) (tupleBy o h)
   unfolding admitsTuple
   match-scheme v = rw (← u, not-true a v)
 
   module _ (v : not a ≡ false) where
-    pub match-none : e .host ≡ kind.None → true ≡ admitsTuple (expressionIn s e) (tupleIn t o)
-    unfolding admitsTuple hostAdmits
-    match-none k = rw (← u, not-false a v, k)
+    at-host : admitsTuple (expressionBy e x) (tupleBy o h) ≡ hostAdmits (hostIn (e .host) x) (e .port) (tupleBy o h)
+    unfolding admitsTuple
+    at-host = rw (← u, not-false a v)
+
+    pub match-none : e .host ≡ kind.None → true ≡ admitsTuple (expressionBy e x) (tupleBy o h)
+    unfolding hostAdmits
+    match-none k = rw (at-host, k)
 
     module _ (r : Bool) (p : r ≡ portAdmits (e .port) (o .scheme) (o .port)) where
-      pub match-any : e .host ≡ kind.Any → r ≡ admitsTuple (expressionIn s e) (tupleIn t o)
-      unfolding admitsTuple hostAdmits
-      match-any k = rw (← u, not-false a v, k) p
+      pub match-any : e .host ≡ kind.Any → r ≡ admitsTuple (expressionBy e x) (tupleBy o h)
+      unfolding hostAdmits
+      match-any k = rw (at-host, k) p
 
-    module _ (x h : List ℕ) (m : x ≡ partOf s (e .from) (e .to)) (n : h ≡ partOf t (o .from) (o .to)) (b : Bool) where
-      module _ (k : e .host ≡ kind.Exact) (w : b ≡ sameLowered x h) where
-        same-host : sameBytes (lowered (partOf s (e .from) (e .to))) (partOf t (o .from) (o .to)) ≡ b
-        same-host = rw (← m, ← n) (sym (w ∙ same-each lower x h))
+      pub match-exact : (b : Bool) → b ≡ sameBytes x h → e .host ≡ kind.Exact → b ≡ true → r ≡ admitsTuple (expressionBy e x) (tupleBy o h)
+      unfolding hostAdmits
+      match-exact b w k z = rw (at-host, k, ← w, z) p
 
-        pub match-exact : b ≡ true → (r : Bool) → r ≡ portAdmits (e .port) (o .scheme) (o .port) → r ≡ admitsTuple (expressionIn s e) (tupleIn t o)
-        unfolding admitsTuple hostAdmits
-        match-exact z r p = rw (← u, not-false a v, k, same-host, z) p
+      pub match-subdomain : (b : Bool) → b ≡ endsIn (46 ∷ x) h → e .host ≡ kind.Subdomains → b ≡ true → r ≡ admitsTuple (expressionBy e x) (tupleBy o h)
+      unfolding hostAdmits
+      match-subdomain b w k z = rw (at-host, k, ← w, z) p
 
-        pub match-other : b ≡ false → false ≡ admitsTuple (expressionIn s e) (tupleIn t o)
-        unfolding admitsTuple hostAdmits
-        match-other z = rw (← u, not-false a v, k, same-host, z)
+    pub match-other : (b : Bool) → b ≡ sameBytes x h → e .host ≡ kind.Exact → b ≡ false → false ≡ admitsTuple (expressionBy e x) (tupleBy o h)
+    unfolding hostAdmits
+    match-other b w k z = rw (at-host, k, ← w, z)
 
-      module _ (k : e .host ≡ kind.Subdomains) (w : b ≡ endsIn (46 ∷ lowered x) h) where
-        ends-host : endsIn (46 ∷ lowered (partOf s (e .from) (e .to))) (partOf t (o .from) (o .to)) ≡ b
-        ends-host = rw (← m, ← n) (sym w)
+    pub match-outside : (b : Bool) → b ≡ endsIn (46 ∷ x) h → e .host ≡ kind.Subdomains → b ≡ false → false ≡ admitsTuple (expressionBy e x) (tupleBy o h)
+    unfolding hostAdmits
+    match-outside b w k z = rw (at-host, k, ← w, z)
 
-        pub match-subdomain : b ≡ true → (r : Bool) → r ≡ portAdmits (e .port) (o .scheme) (o .port) → r ≡ admitsTuple (expressionIn s e) (tupleIn t o)
-        unfolding admitsTuple hostAdmits
-        match-subdomain z r p = rw (← u, not-false a v, k, ends-host, z) p
+-- hosts in lower case, and hosts in any case that ranges of texts say
+pub match-as-is : (e : ExpressionParts) (o : TupleParts) (x h : List ℕ) (r : Bool) → r ≡ admitsTuple (expressionBy e (each (fold false) x)) (tupleBy o h) → r ≡ admitsTuple (expressionBy e x) (tupleBy o h)
+match-as-is e o x h r w = rw (each-as-is x) at w
 
-        pub match-outside : b ≡ false → false ≡ admitsTuple (expressionIn s e) (tupleIn t o)
-        unfolding admitsTuple hostAdmits
-        match-outside z = rw (← u, not-false a v, k, ends-host, z)
+pub match-ranges : (s t : List ℕ) (e : ExpressionRange) (o : TupleRange) (x h : List ℕ) → x ≡ partOf s (e .from) (e .to) → h ≡ partOf t (o .from) (o .to) → (r : Bool) → r ≡ admitsTuple (expressionBy (record { scheme = e .scheme; host = e .host; port = e .port }) (each (fold true) x)) (tupleBy (record { scheme = o .scheme; port = o .port }) h) → r ≡ admitsTuple (expressionIn s e) (tupleIn t o)
+match-ranges s t e o x h m n r w = rw (← m, ← n, ← (each-any x)) w
 
 module _ (s t : List ℕ) (e : ExpressionRange) (o : OriginRange) where
   pub admits-by-tuple : (x : TupleRange) (r : Bool) → r ≡ admitsTuple (expressionIn s e) (tupleIn t x) → o ≡ range.Tuple x → r ≡ admits (expressionIn s e) (originIn t o)

@@ -1,7 +1,7 @@
 -- Numbers in decimal: read digit by digit, and written. Assumes nothing.
-use mathlib.Core.Path.{_≡_, refl, ap, _∙_, sym}
-use Prim.Native.Nat.{ℕ, zero, suc, _+_, _-_, _*_, _^_, _/_, _%_, _≤_, _<_}
-use mathlib.Core.List.{List, [], _∷_, _++_}
+use mathlib.Core.Path.{_≡_, refl, _∙_, sym}
+use Prim.Native.Nat.{ℕ, _+_, _-_, _*_, _≤_, _<_}
+use mathlib.Core.List.{List, [], _∷_}
 use mathlib.Core.Bool.{Bool, true, false, not, _&&_}
 use mathlib.Core.Option.{Option, some, none}
 use native.Mathlib.Omega.{arith}
@@ -9,7 +9,7 @@ use native.Mathlib.Nat.{lt-of-lt-of-le}
 use native.Mathlib.Numerals.{add-one}
 use lib.ListN.{length, getD, drop, drop-of-length-le}
 use lib.Seq.{drop-cons}
-use lib.Dec.{leb, ltb, eqb}
+use lib.Dec.{leb, eqb}
 use borrow.Author.Tests.{lt-ltb, eqb-false, le-leb, lt-leb, leb-true, leb-false, not-true, not-false}
 use Rattle.ascii.proofs.Clash.{clash}
 use Rattle.limits.specs.Limits.{lastPort, portDigits}
@@ -135,8 +135,8 @@ module _ (ds : List ℕ) (z : leadsZero ds ≡ false) where
     where
       go : (a b : Bool) → isNumber ds ≡ b → pick (a && b) (some (decimal ds)) none ≡ some n → (isNumber ds ≡ true) × (decimal ds ≡ n)
       go true true u f = (u, cc)
-      go true false u f = absurd (let q : _≡_ {A = ℕ} 0 1 = cc in omega arith)
-      go false b u f = absurd (let q : _≡_ {A = ℕ} 0 1 = cc in omega arith)
+      go true false u f = clash cc
+      go false b u f = clash cc
 
   pub port-none : portNumber ds ≡ none → isNumber ds ≡ false
   unfolding portNumber isPortPart pick
@@ -144,5 +144,5 @@ module _ (ds : List ℕ) (z : leadsZero ds ≡ false) where
     where
       go : (a b : Bool) → leb (length ds) portDigits ≡ a → isNumber ds ≡ b → pick (a && b) (some (decimal ds)) none ≡ none → b ≡ false
       go a false t u f = refl
-      go true true t u f = absurd (let q : _≡_ {A = ℕ} 0 1 = cc in omega arith)
+      go true true t u f = clash cc
       go false true t u f = absurd (omega (arith, long-decimal ds (leb-false (length ds) portDigits t) z (number-digits ds u), number-most ds u))

@@ -4,7 +4,7 @@ use Prim.Native.Nat.{ℕ, zero, suc, _+_, _-_, _/_, _%_, _≤_, _<_}
 use mathlib.Core.List.{List, [], _∷_, _++_, append-assoc, append-nil}
 use native.Mathlib.Omega.{arith}
 use lib.ListN.{length, take, drop, set, replicate, length-set, length-append, length-replicate, take-append-drop}
-use lib.Seq.{drop-cons, take-set-le, take-take, drop-set-lt, getD-set-same, take-all, drop-length}
+use lib.Seq.{drop-cons, take-set-le, take-take, drop-set-lt, getD-set-same}
 use borrow.Author.Tests.{lt-ltb, le-ltb}
 use Rattle.limits.specs.Limits.{portDigits}
 use Rattle.ascii.specs.Bytes.{pick}

@@ -1,17 +1,16 @@
 -- The whole readings of origin texts and expressions, test by test. Assumes nothing.
-use mathlib.Core.Path.{_≡_, refl, ap, _∙_, sym}
-use Prim.Native.Nat.{ℕ, _≤_, min}
-use mathlib.Core.List.{List, [], _∷_}
+use mathlib.Core.Path.{_≡_, ap, _∙_, sym}
+use Prim.Native.Nat.{ℕ, _≤_}
+use mathlib.Core.List.{List}
 use mathlib.Core.Bool.{Bool, true, false}
 use mathlib.Core.Option.{some}
 use native.Mathlib.Omega.{arith}
-use lib.ListN.{length, take, drop, length-take}
+use lib.ListN.{length, take, length-take}
 use Rattle.ascii.specs.Bytes.{pick, lower}
 use Rattle.ascii.specs.Literals
-use Rattle.ascii.specs.Texts.{each, sameBytes, sameLowered}
-use Rattle.ascii.specs.Reading.{isEmpty}
+use Rattle.ascii.specs.Texts.{sameBytes, sameLowered}
 use Rattle.ascii.proofs.Texts.{same-is}
-use Rattle.origins.specs.Origins.{schemeText, schemeSlashes, nullText, startsWith, tupleOf, originOf}
+use Rattle.origins.specs.Origins.{schemeText, schemeSlashes, pastScheme, nullText, startsWith, tupleOf, originOf}
 use Rattle.origins.specs.Expressions.{schemeSource, startsLowered, hostSourceOf, expressionOf}
 use Rattle.origins.specs.Answers.{originAs, sourceAs}
 use Rattle.origins.specs.declared.Scheme.the-variants.{Http, Https}
@@ -45,12 +44,12 @@ module _ (s : List ℕ) where
     origin-null v = rw (empty-no s h, ← u, v)
 
     module _ (v : a ≡ false) (b : Bool) (w : b ≡ startsWith (schemeSlashes Http) s) where
-      pub origin-http : b ≡ true → (r : OriginText) → r ≡ originAs (tupleOf Http (drop 7 s)) → r ≡ originAs (originOf s)
+      pub origin-http : b ≡ true → (r : OriginText) → r ≡ originAs (tupleOf Http (pastScheme Http s)) → r ≡ originAs (originOf s)
       unfolding originOf pick
       origin-http x r y = rw (empty-no s h, ← u, v, ← w, x) y
 
       module _ (x : b ≡ false) (c : Bool) (y : c ≡ startsWith (schemeSlashes Https) s) where
-        pub origin-https : c ≡ true → (r : OriginText) → r ≡ originAs (tupleOf Https (drop 8 s)) → r ≡ originAs (originOf s)
+        pub origin-https : c ≡ true → (r : OriginText) → r ≡ originAs (tupleOf Https (pastScheme Https s)) → r ≡ originAs (originOf s)
         unfolding originOf pick
         origin-https z r e = rw (empty-no s h, ← u, v, ← w, x, ← y, z) e
 
@@ -69,12 +68,12 @@ module _ (s : List ℕ) where
       source-https x r e = rw (← u, v, ← w, x) e
 
       module _ (x : b ≡ false) (c : Bool) (y : c ≡ startsLowered (schemeSlashes Http) s) where
-        pub source-http-host : c ≡ true → (r : Source) → r ≡ sourceAs (hostSourceOf Http (drop 7 s)) → r ≡ sourceAs (expressionOf s)
+        pub source-http-host : c ≡ true → (r : Source) → r ≡ sourceAs (hostSourceOf Http (pastScheme Http s)) → r ≡ sourceAs (expressionOf s)
         unfolding expressionOf pick
         source-http-host z r e = rw (← u, v, ← w, x, ← y, z) e
 
         module _ (z : c ≡ false) (d : Bool) (f : d ≡ startsLowered (schemeSlashes Https) s) where
-          pub source-https-host : d ≡ true → (r : Source) → r ≡ sourceAs (hostSourceOf Https (drop 8 s)) → r ≡ sourceAs (expressionOf s)
+          pub source-https-host : d ≡ true → (r : Source) → r ≡ sourceAs (hostSourceOf Https (pastScheme Https s)) → r ≡ sourceAs (expressionOf s)
           unfolding expressionOf pick
           source-https-host g r e = rw (← u, v, ← w, x, ← y, z, ← f, g) e
 

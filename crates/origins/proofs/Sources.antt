@@ -1,29 +1,27 @@
 -- Past the scheme: a host and a port, read by places of the text. Assumes nothing.
 use mathlib.Core.Path.{_≡_, refl, ap, _∙_, sym}
-use Prim.Native.Nat.{ℕ, _+_, _-_, _≤_, _<_}
-use mathlib.Core.List.{List, [], _∷_}
+use Prim.Native.Nat.{ℕ, _+_, _-_, _≤_}
+use mathlib.Core.List.{List}
 use mathlib.Core.Bool.{Bool, true, false, not}
 use mathlib.Core.Option.{Option, some, none}
 use native.Mathlib.Omega.{arith}
 use lib.ListN.{length, take, drop, length-drop, length-take}
 use borrow.Author.Tests.{not-true, not-false}
 use Rattle.ascii.proofs.Clash.{clash}
-use Rattle.ascii.specs.Bytes.{pick, lower, within}
-use Rattle.ascii.specs.Texts.{every, each, lowered, sameBytes}
+use Rattle.ascii.specs.Bytes.{pick, lower}
+use Rattle.ascii.specs.Texts.{lowered, sameBytes}
 use Rattle.ascii.specs.Reading.{runOf, past}
 use Rattle.ascii.specs.Places.{IsRun}
 use Rattle.ascii.specs.declared.Class.the-variants.{Not}
 use Rattle.ascii.proofs.Reading.{run-part}
-use Rattle.ascii.proofs.Bytes.{and-left, within-low}
 use Rattle.ascii.specs.Literals
-use Rattle.limits.specs.Limits.{hostBytes}
-use Rattle.origins.specs.Hosts.{labels, isLabel, isHost}
+use Rattle.origins.specs.Hosts.{isHost, isOriginHost}
 use Rattle.origins.specs.Ports.{originPort, portPartOf}
-use Rattle.origins.specs.Origins.{TupleOrigin, OriginSaid, schemeSlashes, startsWith, notColon, withPort, tupleOf}
-use Rattle.origins.specs.Expressions.{HostPart, SourceExpression, hostPartOf, withParts, hostSourceOf}
-use Rattle.origins.specs.Expressions.HostPart.{noHost, anyHost, exactHost, subdomainsOf}
+use Rattle.origins.specs.Origins.{schemeSlashes, pastScheme, startsWith, notColon, withPort, tupleOf}
+use Rattle.origins.specs.Expressions.{HostPart, hostPartOf, withParts, hostSourceOf}
+use Rattle.origins.specs.Expressions.HostPart.{anyHost, exactHost, subdomainsOf}
 use Rattle.origins.specs.Answers.{originAs, sourceAs}
-use Rattle.origins.specs.Steps.{fold, digitsAs, portAs, hostAs}
+use Rattle.origins.specs.Steps.{digitsAs, portAs, hostAs}
 use Rattle.origins.specs.declared.Scheme.{Scheme}
 use Rattle.origins.specs.declared.Digits.{Digits}
 use Rattle.origins.specs.declared.Digits.the-variants as digits
@@ -36,7 +34,8 @@ use Rattle.origins.specs.declared.HostRead.the-variants as host
 use Rattle.origins.specs.declared.HostKind.the-variants as kind
 use Rattle.origins.specs.declared.Source.the-variants as source
 use Rattle.origins.proofs.Numbers.{digits-some, digits-none}
-use Rattle.origins.proofs.Steps.{each-as-is, each-length, rest-all}
+use Rattle.origins.proofs.HostBytes.{host-some}
+use Rattle.origins.proofs.Steps.{each-length, rest-all}
 
 ports-some : (o : Option PortPart) (r : PortRead) (p : PortPart) → r ≡ portAs o → r ≡ port.Part p → o ≡ some p
 ports-some (some m) r p e f = let k : m ≡ p = cc in rw k
@@ -105,14 +104,9 @@ unfolding withParts
 no-port k (some h) = refl
 no-port k none = refl
 
--- a host is not empty
-host-some : (h : List ℕ) → isHost h ≡ true → 1 ≤ length h
-unfolding isHost
-host-some h e = within-low 1 hostBytes (length h) (and-left (within 1 hostBytes (length h)) (every isLabel (labels h)) e)
-
-module _ (k : Scheme) (s : List ℕ) (from to : ℕ) (inside : from ≤ length s) (run : IsRun (Not 58) s from to) where
+module _ (k : Scheme) (s : List ℕ) (from to : ℕ) (begins : from ≡ length (schemeSlashes k)) (inside : length (schemeSlashes k) ≤ length s) (run : IsRun (Not 58) s from to) where
   host-there : take (to - from) (drop from s) ≡ runOf notColon (drop from s)
-  host-there = run-part notColon s from to inside (run .is) (run .from) (run .upto)
+  host-there = run-part notColon s from to (omega arith) (run .is) (run .from) (run .upto)
 
   port-there : take (length s - to) (drop to s) ≡ past notColon (drop from s)
   port-there = rest-all s to ∙ run .is
@@ -120,59 +114,59 @@ module _ (k : Scheme) (s : List ℕ) (from to : ℕ) (inside : from ≤ length s
   host-length : length (runOf notColon (drop from s)) ≡ to - from
   host-length = ap length (sym host-there) ∙ length-take (to - from) (drop from s) ∙ omega (arith, length-drop from s, run .upto)
 
-  module _ (b : Bool) (u : b ≡ isHost (each (fold false) (take (to - from) (drop from s)))) where
-    good : isHost (runOf notColon (drop from s)) ≡ b
-    good = rw (← host-there, ← (each-as-is (take (to - from) (drop from s)))) (sym u)
+  module _ (b : Bool) (u : b ≡ isOriginHost (take (to - from) (drop from s))) where
+    good : isOriginHost (runOf notColon (drop from s)) ≡ b
+    good = rw (← host-there) (sym u)
 
-    pub tuple-no-host : not b ≡ true → text.NotAnOrigin ≡ originAs (tupleOf k (drop from s))
+    pub tuple-no-host : not b ≡ true → text.NotAnOrigin ≡ originAs (tupleOf k (pastScheme k s))
     unfolding tupleOf pick
-    tuple-no-host v = rw (good, not-true b v)
+    tuple-no-host v = rw (← begins, good, not-true b v)
 
     module _ (v : not b ≡ false) (r : Digits) (w : r ≡ digitsAs (originPort k (take (length s - to) (drop to s)))) where
-      at-port : tupleOf k (drop from s) ≡ withPort k (runOf notColon (drop from s)) (originPort k (take (length s - to) (drop to s)))
+      at-port : tupleOf k (pastScheme k s) ≡ withPort k (runOf notColon (drop from s)) (originPort k (take (length s - to) (drop to s)))
       unfolding tupleOf pick
-      at-port = rw (good, not-false b v, port-there)
+      at-port = rw (← begins, good, not-false b v, port-there)
 
-      pub tuple-no-port : r ≡ digits.None → text.NotAnOrigin ≡ originAs (tupleOf k (drop from s))
+      pub tuple-no-port : r ≡ digits.None → text.NotAnOrigin ≡ originAs (tupleOf k (pastScheme k s))
       unfolding withPort
       tuple-no-port e = rw (at-port, digits-none (originPort k (take (length s - to) (drop to s))) r w e)
 
-      pub tuple-is : (n : ℕ) → from ≡ length (schemeSlashes k) → r ≡ digits.Number n → text.Tuple (record { scheme = k; from = from; to = to; port = n }) ≡ originAs (tupleOf k (drop from s))
+      pub tuple-is : (n : ℕ) → r ≡ digits.Number n → text.Tuple (record { scheme = k; from = from; to = to; port = n }) ≡ originAs (tupleOf k (pastScheme k s))
       unfolding withPort
-      tuple-is n f e =
-          let t : to ≡ length (schemeSlashes k) + length (runOf notColon (drop from s)) = omega (arith, host-length, f, run .from, run .upto) in
-          rw (at-port, digits-some (originPort k (take (length s - to) (drop to s))) r n w e, ← t, ← f)
+      tuple-is n e =
+          let t : to ≡ length (schemeSlashes k) + length (runOf notColon (drop from s)) = omega (arith, host-length, begins, run .from, run .upto) in
+          rw (at-port, digits-some (originPort k (take (length s - to) (drop to s))) r n w e, ← t, ← begins)
 
   -- a host-source
   module _ (r : PortRead) (w : r ≡ portAs (portPartOf (take (length s - to) (drop to s)))) where
-    at-source : hostSourceOf k (drop from s) ≡ withParts k (hostPartOf (lowered (take (to - from) (drop from s)))) (portPartOf (take (length s - to) (drop to s)))
+    at-source : hostSourceOf k (pastScheme k s) ≡ withParts k (hostPartOf (lowered (take (to - from) (drop from s)))) (portPartOf (take (length s - to) (drop to s)))
     unfolding hostSourceOf
-    at-source = rw (host-there, port-there)
+    at-source = rw (← begins, host-there, port-there)
 
-    pub source-no-port : r ≡ port.None → source.NotAnExpression ≡ sourceAs (hostSourceOf k (drop from s))
+    pub source-no-port : r ≡ port.None → source.NotAnExpression ≡ sourceAs (hostSourceOf k (pastScheme k s))
     source-no-port e = rw (at-source, ports-none (portPartOf (take (length s - to) (drop to s))) r w e) (no-port k (hostPartOf (lowered (take (to - from) (drop from s)))))
 
     module _ (p : PortPart) (e : r ≡ port.Part p) (q : HostRead) (u : q ≡ hostAs (hostPartOf (lowered (take (to - from) (drop from s))))) where
-      at-host : hostSourceOf k (drop from s) ≡ withParts k (hostPartOf (lowered (take (to - from) (drop from s)))) (some p)
+      at-host : hostSourceOf k (pastScheme k s) ≡ withParts k (hostPartOf (lowered (take (to - from) (drop from s)))) (some p)
       at-host = rw (at-source, ports-some (portPartOf (take (length s - to) (drop to s))) r p w e)
 
-      pub source-no-host : q ≡ host.None → source.NotAnExpression ≡ sourceAs (hostSourceOf k (drop from s))
+      pub source-no-host : q ≡ host.None → source.NotAnExpression ≡ sourceAs (hostSourceOf k (pastScheme k s))
       unfolding withParts
       source-no-host f = rw (at-host, hosts-none (lowered (take (to - from) (drop from s))) q u f)
 
-      pub source-any : q ≡ host.Any → source.Expression (record { scheme = k; host = kind.Any; from = 0; to = 0; port = p }) ≡ sourceAs (hostSourceOf k (drop from s))
+      pub source-any : q ≡ host.Any → source.Expression (record { scheme = k; host = kind.Any; from = 0; to = 0; port = p }) ≡ sourceAs (hostSourceOf k (pastScheme k s))
       unfolding withParts
       source-any f = rw (at-host, hosts-any (lowered (take (to - from) (drop from s))) q u f)
 
-      pub source-exact : from ≡ length (schemeSlashes k) → q ≡ host.Exact → source.Expression (record { scheme = k; host = kind.Exact; from = from; to = to; port = p }) ≡ sourceAs (hostSourceOf k (drop from s))
+      pub source-exact : q ≡ host.Exact → source.Expression (record { scheme = k; host = kind.Exact; from = from; to = to; port = p }) ≡ sourceAs (hostSourceOf k (pastScheme k s))
       unfolding withParts
-      source-exact g f =
-          let t : to ≡ length (schemeSlashes k) + length (lowered (take (to - from) (drop from s))) = omega (arith, each-length lower (take (to - from) (drop from s)), ap length host-there, host-length, g, run .from, run .upto) in
-          rw (at-host, hosts-exact (lowered (take (to - from) (drop from s))) q u f, ← t, ← g)
+      source-exact f =
+          let t : to ≡ length (schemeSlashes k) + length (lowered (take (to - from) (drop from s))) = omega (arith, each-length lower (take (to - from) (drop from s)), ap length host-there, host-length, begins, run .from, run .upto) in
+          rw (at-host, hosts-exact (lowered (take (to - from) (drop from s))) q u f, ← t, ← begins)
 
-      pub source-subdomains : from ≡ length (schemeSlashes k) → q ≡ host.Subdomains → source.Expression (record { scheme = k; host = kind.Subdomains; from = from + 2; to = to; port = p }) ≡ sourceAs (hostSourceOf k (drop from s))
+      pub source-subdomains : q ≡ host.Subdomains → source.Expression (record { scheme = k; host = kind.Subdomains; from = from + 2; to = to; port = p }) ≡ sourceAs (hostSourceOf k (pastScheme k s))
       unfolding withParts
-      source-subdomains g f =
+      source-subdomains f =
           let m = hosts-subdomains (lowered (take (to - from) (drop from s))) q u f in
-          let t : to ≡ length (schemeSlashes k) + 2 + length (drop 2 (lowered (take (to - from) (drop from s)))) = omega (arith, length-drop 2 (lowered (take (to - from) (drop from s))), host-some (drop 2 (lowered (take (to - from) (drop from s)))) (m .1), each-length lower (take (to - from) (drop from s)), ap length host-there, host-length, g, run .from, run .upto) in
-          rw (at-host, m .0, ← t, ← g)
+          let t : to ≡ length (schemeSlashes k) + 2 + length (drop 2 (lowered (take (to - from) (drop from s)))) = omega (arith, length-drop 2 (lowered (take (to - from) (drop from s))), host-some (drop 2 (lowered (take (to - from) (drop from s)))) (m .1), each-length lower (take (to - from) (drop from s)), ap length host-there, host-length, begins, run .from, run .upto) in
+          rw (at-host, m .0, ← t, ← begins)

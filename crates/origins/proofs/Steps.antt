@@ -1,17 +1,17 @@
 -- Steps of the readings, in the terms of the code. Assumes nothing.
 use mathlib.Core.Path.{_≡_, refl, ap, _∙_, sym}
 use Prim.Native.Nat.{ℕ, suc, _+_, _-_, _≤_, _<_, min}
-use mathlib.Core.List.{List, [], _∷_, _++_}
-use mathlib.Core.Bool.{Bool, true, false, not, _&&_}
+use mathlib.Core.List.{List, [], _∷_}
+use mathlib.Core.Bool.{Bool, true, false}
 use native.Mathlib.Omega.{arith}
 use native.Mathlib.Numerals.{add-one}
 use lib.ListN.{length, getD, take, drop, length-drop}
 use lib.Seq.{take-all, drop-cons}
-use lib.Dec.{leb, ltb, eqb}
+use lib.Dec.{leb, eqb}
 use borrow.Author.Tests.{le-leb, lt-leb, leb-true, leb-false, lt-ltb, le-ltb, eq-eqb, ne-eqb}
 use Rattle.ascii.specs.Bytes.{pick, lower}
 use Rattle.ascii.specs.Texts.{every, each, lowered, sameBy, sameBytes, sameLowered}
-use Rattle.ascii.specs.Reading.{headOf, isEmpty, next}
+use Rattle.ascii.specs.Reading.{headOf}
 use Rattle.limits.specs.Limits.{hostBytes}
 use Rattle.origins.specs.Hosts.{labels, isLabel, isHost}
 use Rattle.origins.specs.Ports.{leadsZero}
@@ -78,36 +78,39 @@ module _ (ds : List ℕ) where
 pub rest-all : (s : List ℕ) (i : ℕ) → take (length s - i) (drop i s) ≡ drop i s
 rest-all s i = take-all (length s - i) (drop i s) (omega (arith, length-drop i s))
 
--- a host that ends in a dot and another host, place by place; the dot's place is `length h - length x - 1`
-module _ (x h : List ℕ) where
-  pub sub-short : length h ≤ length x → false ≡ endsIn (46 ∷ lowered x) h
-  unfolding endsIn
-  sub-short g =
-      let k : length h ≤ length (46 ∷ lowered x) = omega (arith, each-length lower x) in
-      rw (le-ltb (length (46 ∷ lowered x)) (length h) k)
+-- hosts compared, in any case or byte for byte
+pub same-any : (x h : List ℕ) (r t : Bool) → r ≡ sameLowered x h → t ≡ true → r ≡ sameBytes (each (fold t) x) h
+same-any x h r t e f = rw (f, each-any x) (e ∙ same-each lower x h)
 
-  pub sub-bare : length x < length h → length h - length x - 1 ≡ 0 → false ≡ endsIn (46 ∷ lowered x) h
-  unfolding endsIn
-  sub-bare f g =
-      let k : length h ≤ length (46 ∷ lowered x) = omega (arith, each-length lower x) in
-      rw (le-ltb (length (46 ∷ lowered x)) (length h) k)
+pub same-as-is : (x h : List ℕ) (r t : Bool) → r ≡ sameBytes x h → t ≡ false → r ≡ sameBytes (each (fold t) x) h
+same-as-is x h r t e f = rw (f, each-as-is x) e
 
-  module _ (f : length x < length h) (g : length h - length x - 1 ≡ 0 → ⊥) where
-    sub-at : endsIn (46 ∷ lowered x) h ≡ pick (eqb 46 (getD h (length h - length x - 1) 0)) (sameBytes (lowered x) (drop (length h - length x - 1 + 1) h)) false
+-- a host that ends in a dot and another host of `n` bytes, place by place; the dot's place is `length h - n - 1`
+module _ (x h : List ℕ) (n : ℕ) (long : length x ≡ n) where
+  pub sub-short : length h ≤ n → false ≡ endsIn (46 ∷ x) h
+  unfolding endsIn
+  sub-short g = let k : length h ≤ length (46 ∷ x) = omega arith in rw (le-ltb (length (46 ∷ x)) (length h) k)
+
+  pub sub-bare : n < length h → length h - n - 1 ≡ 0 → false ≡ endsIn (46 ∷ x) h
+  unfolding endsIn
+  sub-bare f g = let k : length h ≤ length (46 ∷ x) = omega arith in rw (le-ltb (length (46 ∷ x)) (length h) k)
+
+  module _ (f : n < length h) (g : length h - n - 1 ≡ 0 → ⊥) where
+    sub-at : endsIn (46 ∷ x) h ≡ pick (eqb 46 (getD h (length h - n - 1) 0)) (sameBytes x (drop (length h - n - 1 + 1) h)) false
     unfolding endsIn sameBy
     sub-at =
-        let k : length (46 ∷ lowered x) < length h = omega (arith, each-length lower x) in
-        let p : length h - length (46 ∷ lowered x) ≡ length h - length x - 1 = omega (arith, each-length lower x) in
-        let q : length h - length x - 1 < length h = omega arith in
-        rw (lt-ltb (length (46 ∷ lowered x)) (length h) k, p, drop-cons h (length h - length x - 1) 0 q, add-one)
+        let k : length (46 ∷ x) < length h = omega arith in
+        let p : length h - length (46 ∷ x) ≡ length h - n - 1 = omega arith in
+        let q : length h - n - 1 < length h = omega arith in
+        rw (lt-ltb (length (46 ∷ x)) (length h) k, p, drop-cons h (length h - n - 1) 0 q, add-one)
 
-    pub sub-other : (getD h (length h - length x - 1) 0 ≡ 46 → ⊥) → false ≡ endsIn (46 ∷ lowered x) h
+    pub sub-other : (getD h (length h - n - 1) 0 ≡ 46 → ⊥) → false ≡ endsIn (46 ∷ x) h
     unfolding pick
-    sub-other d = rw (sub-at, ne-eqb 46 (getD h (length h - length x - 1) 0) (λ e. d (sym e)))
+    sub-other d = rw (sub-at, ne-eqb 46 (getD h (length h - n - 1) 0) (λ e. d (sym e)))
 
-    pub sub-is : (r : Bool) → getD h (length h - length x - 1) 0 ≡ 46 → r ≡ sameLowered x (take (length h - (length h - length x - 1 + 1)) (drop (length h - length x - 1 + 1) h)) → r ≡ endsIn (46 ∷ lowered x) h
+    pub sub-is : (r : Bool) → getD h (length h - n - 1) 0 ≡ 46 → r ≡ sameBytes x (take (length h - (length h - n - 1 + 1)) (drop (length h - n - 1 + 1) h)) → r ≡ endsIn (46 ∷ x) h
     unfolding pick
-    sub-is r d e = rw (sub-at, eq-eqb 46 (getD h (length h - length x - 1) 0) (sym d), ← (same-each lower x (drop (length h - length x - 1 + 1) h))) (rw (rest-all h (length h - length x - 1 + 1)) at e)
+    sub-is r d e = rw (sub-at, eq-eqb 46 (getD h (length h - n - 1) 0) (sym d)) (rw (rest-all h (length h - n - 1 + 1)) at e)
 
 -- a host's length, and then its labels
 module _ (f : ℕ → ℕ) (h : List ℕ) where

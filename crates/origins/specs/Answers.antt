@@ -14,7 +14,6 @@ use Rattle.origins.specs.Expressions.HostPart.{noHost, anyHost, exactHos
 use Rattle.origins.specs.NormalForms.{portText}
 use Rattle.origins.specs.declared.PortText.{PortText}
 use Rattle.origins.specs.declared.Scheme.{Scheme}
-use Rattle.origins.specs.declared.PortPart.{PortPart}
 use Rattle.origins.specs.declared.TupleRange.{TupleRange}
 use Rattle.origins.specs.declared.OriginText.{OriginText}
 use Rattle.origins.specs.declared.OriginText.the-variants as text
@@ -23,6 +22,8 @@ use Rattle.origins.specs.declared.OriginRange.the-variants as range
 use Rattle.origins.specs.declared.HostKind.{HostKind}
 use Rattle.origins.specs.declared.HostKind.the-variants as kind
 use Rattle.origins.specs.declared.ExpressionRange.{ExpressionRange}
+use Rattle.origins.specs.declared.ExpressionParts.{ExpressionParts}
+use Rattle.origins.specs.declared.TupleParts.{TupleParts}
 use Rattle.origins.specs.declared.Source.{Source}
 use Rattle.origins.specs.declared.Source.the-variants as source
 
@@ -84,6 +85,13 @@ hostIn kind.Subdomains h = subdomainsOf h
 
 abbrev pub expressionIn : List ℕ → ExpressionRange → SourceExpression
 expressionIn s r = record { scheme = r .scheme; host = hostIn (r .host) (lowered (partOf s (r .from) (r .to))); port = r .port }
+
+-- the expression and the origin that parts say, beside their hosts' texts
+abbrev pub expressionBy : ExpressionParts → List ℕ → SourceExpression
+expressionBy e h = record { scheme = e .scheme; host = hostIn (e .host) h; port = e .port }
+
+abbrev pub tupleBy : TupleParts → List ℕ → TupleOrigin
+tupleBy o h = record { scheme = o .scheme; host = h; port = o .port }
 
 -- a port's digits at the end of five bytes, zeros before them
 pub record IsPortText (n : ℕ) (r : PortText) : Type 0 where

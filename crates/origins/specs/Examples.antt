@@ -3,20 +3,17 @@ use Prim.Native.Nat.{ℕ}
 use Prim.Native.String.{String}
 use mathlib.Core.Path.{_≡_, refl}
 use mathlib.Core.List.{List, [], _∷_}
-use mathlib.Core.Bool.{Bool, true, false, not, _&&_}
+use mathlib.Core.Bool.{Bool, true, false, not}
 use mathlib.Core.Option.{Option, some, none}
-use Rattle.ascii.specs.Bytes.{pick, lower}
 use Rattle.ascii.specs.Literals.{text}
-use Rattle.ascii.specs.Texts.{every, each, sameBy, sameBytes}
-use Rattle.ascii.specs.Reading.{headOf, isEmpty, next, runOf, past}
-use Rattle.origins.specs.Hosts.{longer, labels, isLabel, isHost}
-use Rattle.origins.specs.Ports.{decimalFrom, isNumber, leadsZero, isPort, originPort, isPortPart, portPartOf}
-use Rattle.origins.specs.Origins.{TupleOrigin, OriginSaid, startsWith, withPort, tupleOf, originOf}
+use Rattle.ascii.specs.Texts.{every, sameBytes}
+use Rattle.origins.specs.Origins.{OriginSaid, originOf}
 use Rattle.origins.specs.Origins.Origin.{tuple}
 use Rattle.origins.specs.Origins.OriginSaid.{saysEmpty, saysNull, saysTuple, noOrigin}
-use Rattle.origins.specs.Expressions.{SourceExpression, hostPartOf, withParts, hostSourceOf, startsLowered, expressionOf}
-use Rattle.origins.specs.Matching.{endsIn, portAdmits, hostAdmits, admitsTuple, admits}
-use Rattle.origins.specs.NormalForms.{lastDigits, portPartText, expressionPartsText, normalPort, normal, normalForm}
+use Rattle.origins.specs.Expressions.{SourceExpression, expressionOf}
+use Rattle.origins.specs.Matching.{admits}
+use Rattle.origins.specs.Computing.{computing}
+use Rattle.origins.specs.NormalForms.{normalForm}
 
 -- an expression, an origin text, and whether the one admits the other
 pub data Case : Type 0 where
@@ -44,7 +41,7 @@ right (admitted e o) = isYes (verdict (expressionOf (text e)) (originOf (text o)
 right (refused e o) = isNo (verdict (expressionOf (text e)) (originOf (text o)))
 
 -- the rows marked # about expressions
-marked : List Case
+abbrev marked : List Case
 marked =
     admitted "https://*.example.com" "https://geo.example.com"
     ∷ refused "https://*.example.com" "https://example.com"
@@ -55,7 +52,7 @@ marked =
     ∷ []
 
 marked-right : every right marked ≡ true
-unfolding marked every each sameBy lower pick headOf isEmpty next runOf past longer labels isLabel isHost decimalFrom isNumber leadsZero isPort originPort isPortPart portPartOf startsWith withPort tupleOf originOf hostPartOf withParts hostSourceOf startsLowered expressionOf endsIn portAdmits hostAdmits admitsTuple admits
+unfolding computing
 marked-right = refl
 
 -- texts, and whether they say a tuple origin
@@ -71,10 +68,10 @@ isNone saysNull = false
 isNone (saysTuple o) = false
 isNone noOrigin = true
 
-goodOrigins : List String
+abbrev goodOrigins : List String
 goodOrigins = "http://a:443" ∷ "https://a:80" ∷ "https://a:0" ∷ "http://-" ∷ "https://a.b-c.d:65535" ∷ []
 
-badOrigins : List String
+abbrev badOrigins : List String
 badOrigins =
     "http://a:80"
     ∷ "https://a:443"
@@ -96,11 +93,11 @@ badOrigins =
     ∷ []
 
 origins-good : every (λ s. isTuple (originOf (text s))) goodOrigins ≡ true
-unfolding goodOrigins every sameBy pick headOf isEmpty next runOf past longer labels isLabel isHost decimalFrom isNumber leadsZero isPort originPort startsWith withPort tupleOf originOf
+unfolding computing
 origins-good = refl
 
 origins-bad : every (λ s. isNone (originOf (text s))) badOrigins ≡ true
-unfolding badOrigins every sameBy pick headOf isEmpty next runOf past longer labels isLabel isHost decimalFrom isNumber leadsZero isPort originPort startsWith withPort tupleOf originOf
+unfolding computing
 origins-bad = refl
 
 -- an expression and its normal form, or no expression
@@ -120,7 +117,7 @@ abbrev formed : Form → Bool
 formed (form s t) = sameForm (text t) (expressionOf (text s))
 formed (nothing s) = noForm (expressionOf (text s))
 
-forms : List Form
+abbrev forms : List Form
 forms =
     form "HTTPS://B.example:443" "https://b.example"
     ∷ form "http://x:0443" "http://x:443"
@@ -142,5 +139,5 @@ forms =
     ∷ []
 
 forms-right : every formed forms ≡ true
-unfolding forms every each sameBy lower pick headOf isEmpty next runOf past longer labels isLabel isHost decimalFrom isNumber isPortPart portPartOf startsWith hostPartOf withParts hostSourceOf startsLowered expressionOf lastDigits portPartText expressionPartsText normalPort normal
+unfolding computing
 forms-right = refl

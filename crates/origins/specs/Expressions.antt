@@ -1,7 +1,7 @@
 -- 01, "Origins and expressions": source expressions. The names are those of Content Security Policy Level 3.
 use Prim.Native.Nat.{ℕ}
 use mathlib.Core.List.{List}
-use mathlib.Core.Bool.{Bool, true, false}
+use mathlib.Core.Bool.{Bool}
 use mathlib.Core.Option.{Option, some, none}
 use lib.ListN.{length, take, drop}
 use Rattle.ascii.specs.Bytes.{pick}
@@ -10,7 +10,7 @@ use Rattle.ascii.specs.Texts.{lowered, sameBytes, sameLowered}
 use Rattle.ascii.specs.Reading.{runOf, past}
 use Rattle.origins.specs.Hosts.{isHost}
 use Rattle.origins.specs.Ports.{portPartOf}
-use Rattle.origins.specs.Origins.{schemeText, schemeSlashes, startsWith, notColon}
+use Rattle.origins.specs.Origins.{schemeText, schemeSlashes, pastScheme, startsWith, notColon}
 use Rattle.origins.specs.declared.Scheme.{Scheme}
 use Rattle.origins.specs.declared.Scheme.the-variants.{Http, Https}
 use Rattle.origins.specs.declared.PortPart.{PortPart}
@@ -58,5 +58,5 @@ unfoldable pub expressionOf : List ℕ → Option SourceExpression
 expressionOf s =
     pick (sameLowered s (schemeText Http)) (some (schemeSource Http))
     (pick (sameLowered s (schemeText Https)) (some (schemeSource Https))
-    (pick (startsLowered (schemeSlashes Http) s) (hostSourceOf Http (drop 7 s))
-    (pick (startsLowered (schemeSlashes Https) s) (hostSourceOf Https (drop 8 s)) none)))
+    (pick (startsLowered (schemeSlashes Http) s) (hostSourceOf Http (pastScheme Http s))
+    (pick (startsLowered (schemeSlashes Https) s) (hostSourceOf Https (pastScheme Https s)) none)))

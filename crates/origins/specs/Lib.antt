@@ -6,4 +6,5 @@ pub mod Matching
 pub mod NormalForms
 pub mod Answers
 pub mod Steps
+pub mod Computing
 pub mod Examples

@@ -1,6 +1,6 @@
 -- 01, "Origins and expressions": whether an expression admits an origin, and whether two origins are the same.
 use Prim.Native.Nat.{ℕ, _-_}
-use mathlib.Core.List.{List, [], _∷_}
+use mathlib.Core.List.{List, _∷_}
 use mathlib.Core.Bool.{Bool, true, false, _&&_}
 use lib.ListN.{length, drop}
 use lib.Dec.{ltb, eqb}
@@ -21,6 +21,10 @@ sameScheme Http Https = false
 sameScheme Https Http = false
 sameScheme Https Https = true
 
+-- an expression's scheme against an origin's: "The scheme must be equal."
+abbrev pub schemeAdmits : Scheme → Scheme → Bool
+schemeAdmits k j = sameScheme k j
+
 -- ends in a text, with at least one byte before it
 unfoldable pub endsIn : List ℕ → List ℕ → Bool
 endsIn t h = ltb (length t) (length h) && sameBytes t (drop (length h - length t) h)
@@ -38,9 +42,9 @@ hostAdmits anyHost p o = portAdmits p (o .scheme) (o .port)
 hostAdmits (exactHost h) p o = sameBytes h (o .host) && portAdmits p (o .scheme) (o .port)
 hostAdmits (subdomainsOf h) p o = endsIn (46 ∷ h) (o .host) && portAdmits p (o .scheme) (o .port)
 
--- "The scheme must be equal."
+-- scheme first, then host and port
 unfoldable pub admitsTuple : SourceExpression → TupleOrigin → Bool
-admitsTuple e o = sameScheme (e .scheme) (o .scheme) && hostAdmits (e .host) (e .port) o
+admitsTuple e o = schemeAdmits (e .scheme) (o .scheme) && hostAdmits (e .host) (e .port) o
 
 -- "No expression admits an opaque origin."
 unfoldable pub admits : SourceExpression → Origin → Bool

@@ -7,7 +7,7 @@ use lib.Dec.{ltb, eqb}
 use Rattle.limits.specs.Limits.{lastPort, hostBytes, portDigits}
 use Rattle.ascii.specs.Bytes.{pick}
 use Rattle.ascii.specs.Texts.{sameBytes}
-use Rattle.origins.specs.Hosts.{isHost}
+use Rattle.origins.specs.Hosts.{isHost, isOriginHost}
 use Rattle.origins.specs.Ports.{defaultPort}
 use Rattle.origins.specs.Origins.{TupleOrigin, schemeText, schemeSlashes}
 use Rattle.origins.specs.Expressions.{HostPart, SourceExpression}
@@ -115,5 +115,5 @@ pub record GoodExpression (e : SourceExpression) : Type 0 where
 
 -- an origin that a text can say
 pub record GoodOrigin (o : TupleOrigin) : Type 0 where
-  pub host : isHost (o .host) ≡ true
+  pub host : isOriginHost (o .host) ≡ true
   pub port : o .port ≤ lastPort

@@ -1,7 +1,7 @@
 -- 01, "Origins and expressions": origins and origin texts.
 use Prim.Native.Nat.{ℕ}
 use mathlib.Core.List.{List}
-use mathlib.Core.Bool.{Bool, true, false, not, _&&_}
+use mathlib.Core.Bool.{Bool, not}
 use mathlib.Core.Option.{Option, some, none}
 use lib.ListN.{length, take, drop}
 use lib.Dec.{eqb}
@@ -9,7 +9,7 @@ use Rattle.ascii.specs.Bytes.{pick}
 use Rattle.ascii.specs.Literals.{text}
 use Rattle.ascii.specs.Texts.{sameBytes}
 use Rattle.ascii.specs.Reading.{isEmpty, runOf, past}
-use Rattle.origins.specs.Hosts.{isHost}
+use Rattle.origins.specs.Hosts.{isOriginHost}
 use Rattle.origins.specs.Ports.{originPort}
 use Rattle.origins.specs.declared.Scheme.{Scheme}
 use Rattle.origins.specs.declared.Scheme.the-variants.{Http, Https}
@@ -34,6 +34,10 @@ abbrev pub schemeSlashes : Scheme → List ℕ
 schemeSlashes Http = text "http://"
 schemeSlashes Https = text "https://"
 
+-- what stands past the scheme and `://`
+abbrev pub pastScheme : Scheme → List ℕ → List ℕ
+pastScheme k s = drop (length (schemeSlashes k)) s
+
 abbrev pub nullText : List ℕ
 nullText = text "null"
 
@@ -56,12 +60,12 @@ withPort k h none = noOrigin
 
 -- past the scheme: "a host, and perhaps `:` and a port"
 unfoldable pub tupleOf : Scheme → List ℕ → OriginSaid
-tupleOf k l = pick (isHost (runOf notColon l)) (withPort k (runOf notColon l) (originPort k (past notColon l))) noOrigin
+tupleOf k l = pick (isOriginHost (runOf notColon l)) (withPort k (runOf notColon l) (originPort k (past notColon l))) noOrigin
 
 -- "An origin text is `http://` or `https://`, a host, and perhaps `:` and a port; or `null`; or empty."
 unfoldable pub originOf : List ℕ → OriginSaid
 originOf s =
     pick (isEmpty s) saysEmpty
     (pick (sameBytes s nullText) saysNull
-    (pick (startsWith (schemeSlashes Http) s) (tupleOf Http (drop 7 s))
-    (pick (startsWith (schemeSlashes Https) s) (tupleOf Https (drop 8 s)) noOrigin)))
+    (pick (startsWith (schemeSlashes Http) s) (tupleOf Http (pastScheme Http s))
+    (pick (startsWith (schemeSlashes Https) s) (tupleOf Https (pastScheme Https s)) noOrigin)))

@@ -1,12 +1,12 @@
 -- 01, "Origins and expressions": ports.
 use Prim.Native.Nat.{ℕ, _+_, _-_, _*_}
 use mathlib.Core.List.{List, [], _∷_}
-use mathlib.Core.Bool.{Bool, true, false, not, _&&_}
+use mathlib.Core.Bool.{Bool, not, _&&_}
 use mathlib.Core.Option.{Option, some, none}
 use lib.ListN.{length}
 use lib.Dec.{leb, ltb, eqb}
 use Rattle.limits.specs.Limits.{lastPort, portDigits}
-use Rattle.ascii.specs.Bytes.{pick, within, isDigit}
+use Rattle.ascii.specs.Bytes.{pick, isDigit}
 use Rattle.ascii.specs.Literals.{text}
 use Rattle.ascii.specs.Texts.{every, sameBytes}
 use Rattle.ascii.specs.Reading.{headOf, isEmpty, next}

@@ -2,16 +2,16 @@
 ghost use mathlib.Core.Path.{_≡_};
 ghost use mathlib.Core.List.{_∷_};
 ghost use Prim.Native.Nat.{_≤_, _<_, _-_, _+_};
-ghost use lib.ListN.{length, drop};
+ghost use lib.ListN.{length};
 ghost use mathlib.Core.Option.{some};
-ghost use Rattle.ascii.specs.Texts.{every, lowered, each, sameLowered};
-ghost use Rattle.origins.specs.Hosts.{labels, isLabel, isHost};
+ghost use Rattle.ascii.specs.Texts.{every, lowered, each, sameBytes, sameLowered};
+ghost use Rattle.origins.specs.Hosts.{labels, isLabel, isHost, isOriginHost};
 ghost use Rattle.origins.specs.Ports.{defaultPort, leadsZero, originPort, portPartOf};
-ghost use Rattle.origins.specs.Origins.{schemeSlashes, startsWith, originOf, tupleOf};
+ghost use Rattle.origins.specs.Origins.{schemeSlashes, pastScheme, startsWith, originOf, tupleOf};
 ghost use Rattle.origins.specs.Expressions.{schemeSource, startsLowered, hostPartOf, hostSourceOf, expressionOf};
 ghost use Rattle.origins.specs.Steps.{fold, portNumber, digitsAs, portAs, hostAs, sameKind};
-ghost use Rattle.origins.specs.Matching.{sameScheme, endsIn, portAdmits, admitsTuple, admits, sameTuple, sameOrigin};
-ghost use Rattle.origins.specs.Answers.{originAs, sourceAs, tupleIn, originIn, expressionIn, IsPortText};
+ghost use Rattle.origins.specs.Matching.{sameScheme, schemeAdmits, endsIn, portAdmits, admitsTuple, admits, sameTuple, sameOrigin};
+ghost use Rattle.origins.specs.Answers.{originAs, sourceAs, tupleIn, originIn, expressionIn, expressionBy, tupleBy, IsPortText};
 ghost use Rattle.origins.specs.NormalForms.{normalPort, normal, samePort, sameExpression};
 use ascii::Class;
 use limits::HOST_BYTES;
@@ -77,7 +77,8 @@ pub enum Source {
     NotAnExpression,
 }
 
-fn default_port(k: Scheme) -> u32
+// The default port of a scheme.
+pub fn default_port(k: Scheme) -> u32
     ensures { λ r. ⌜ r ≡ defaultPort k ⌝ }
 {
     match k {
@@ -129,6 +130,13 @@ fn is_host(h: &[u8], anycase: bool) -> bool
         return false;
     }
     labels_good(h, anycase)
+}
+
+// Whether a text is a host as origin texts have them.
+fn is_origin_host(h: &[u8]) -> bool
+    ensures { λ r. ⌜ r ≡ isOriginHost (now (h .entry)) ⌝ }
+{
+    is_host(h, false)
 }
 
 // A port's digits, read.
@@ -201,13 +209,24 @@ fn origin_port(p: &[u8], k: Scheme) -> Digits
     }
 }
 
-// A tuple origin, past its scheme and `://`.
-fn tuple(s: &[u8], from: usize, k: Scheme) -> OriginText
-    requires { ⌜ (from ≡ length (schemeSlashes k)) × (from ≤ length (now s)) ⌝ }
-    ensures { λ r. ⌜ r ≡ originAs (tupleOf k (drop from (now (s .entry)))) ⌝ }
+// How long a scheme and `://` are.
+fn slashes_length(k: Scheme) -> usize
+    ensures { λ r. ⌜ r ≡ length (schemeSlashes k) ⌝ }
 {
+    match k {
+        Scheme::Http => b"http://".len(),
+        Scheme::Https => b"https://".len(),
+    }
+}
+
+// A tuple origin, past its scheme and `://`.
+fn tuple(s: &[u8], k: Scheme) -> OriginText
+    requires { ⌜ length (schemeSlashes k) ≤ length (now s) ⌝ }
+    ensures { λ r. ⌜ r ≡ originAs (tupleOf k (pastScheme k (now (s .entry)))) ⌝ }
+{
+    let from = slashes_length(k);
     let to = ascii::run_end(s, from, Class::Not(b':'));
-    if !is_host(&s[from..to], false) {
+    if !is_origin_host(&s[from..to]) {
         return OriginText::NotAnOrigin;
     }
     match origin_port(&s[to..], k) {
@@ -240,10 +259,10 @@ pub fn origin_text(s: &[u8]) -> OriginText
         return OriginText::Null;
     }
     if starts_with(s, b"http://") {
-        return tuple(s, 7, Scheme::Http);
+        return tuple(s, Scheme::Http);
     }
     if starts_with(s, b"https://") {
-        return tuple(s, 8, Scheme::Https);
+        return tuple(s, Scheme::Https);
     }
     OriginText::NotAnOrigin
 }
@@ -308,10 +327,11 @@ fn host_part(h: &[u8]) -> HostRead
 }
 
 // A host-source, past its scheme and `://`.
-fn host_source(s: &[u8], from: usize, k: Scheme) -> Source
-    requires { ⌜ (from ≡ length (schemeSlashes k)) × (from ≤ length (now s)) ⌝ }
-    ensures { λ r. ⌜ r ≡ sourceAs (hostSourceOf k (drop from (now (s .entry)))) ⌝ }
+fn host_source(s: &[u8], k: Scheme) -> Source
+    requires { ⌜ length (schemeSlashes k) ≤ length (now s) ⌝ }
+    ensures { λ r. ⌜ r ≡ sourceAs (hostSourceOf k (pastScheme k (now (s .entry)))) ⌝ }
 {
+    let from = slashes_length(k);
     let to = ascii::run_end(s, from, Class::Not(b':'));
     match port_part(&s[to..]) {
         PortRead::Part(p) => match host_part(&s[from..to]) {
@@ -365,10 +385,10 @@ pub fn expression(s: &[u8]) -> Source
         return scheme_source(Scheme::Https);
     }
     if starts_lowered(s, b"http://") {
-        return host_source(s, 7, Scheme::Http);
+        return host_source(s, Scheme::Http);
     }
     if starts_lowered(s, b"https://") {
-        return host_source(s, 8, Scheme::Https);
+        return host_source(s, Scheme::Https);
     }
     Source::NotAnExpression
 }
@@ -388,9 +408,20 @@ fn same_scheme(a: Scheme, b: Scheme) -> bool
     }
 }
 
-// Whether a host ends in a dot and `x`, in any case, with at least one byte before them.
-fn is_subdomain(x: &[u8], h: &[u8]) -> bool
-    ensures { λ r. ⌜ r ≡ endsIn (46 ∷ lowered (now (x .entry))) (now (h .entry)) ⌝ }
+// Whether two hosts are the same; `anycase`: the letters of the first in lower case.
+fn same_host(x: &[u8], h: &[u8], anycase: bool) -> bool
+    ensures { λ r. ⌜ r ≡ sameBytes (each (fold anycase) (now (x .entry))) (now (h .entry)) ⌝ }
+{
+    if anycase {
+        ascii::same_lowered(x, h)
+    } else {
+        ascii::same(x, h)
+    }
+}
+
+// Whether a host ends in a dot and `x`, with at least one byte before them; `anycase`: the letters of `x` in lower case.
+fn is_subdomain(x: &[u8], h: &[u8], anycase: bool) -> bool
+    ensures { λ r. ⌜ r ≡ endsIn (46 ∷ each (fold anycase) (now (x .entry))) (now (h .entry)) ⌝ }
 {
     let n = x.len();
     let m = h.len();
@@ -405,7 +436,14 @@ fn is_subdomain(x: &[u8], h: &[u8]) -> bool
         return false;
     }
     let at = dot + 1;
-    ascii::same_lowered(x, &h[at..])
+    same_host(x, &h[at..], anycase)
+}
+
+// Whether an expression's scheme admits an origin's.
+fn scheme_admits(k: Scheme, j: Scheme) -> bool
+    ensures { λ r. ⌜ r ≡ schemeAdmits k j ⌝ }
+{
+    same_scheme(k, j)
 }
 
 fn port_admits(p: PortPart, k: Scheme, n: u32) -> bool
@@ -418,36 +456,72 @@ fn port_admits(p: PortPart, k: Scheme, n: u32) -> bool
     }
 }
 
-fn admits_tuple(s: &[u8], e: ExpressionRange, t: &[u8], o: TupleRange) -> bool
-    ensures { λ r. ⌜ r ≡ admitsTuple (expressionIn (now (s .entry)) e) (tupleIn (now (t .entry)) o) ⌝ }
+// A source expression by its parts, beside the text of its host.
+pub struct ExpressionParts {
+    pub scheme: Scheme,
+    pub host: HostKind,
+    pub port: PortPart,
+}
+
+// A tuple origin by its parts, beside the text of its host.
+pub struct TupleParts {
+    pub scheme: Scheme,
+    pub port: u32,
+}
+
+// Whether an expression with the host `x` admits an origin with the host `h`; `anycase`: the letters of `x` in lower case.
+fn parts_match(e: ExpressionParts, x: &[u8], o: TupleParts, h: &[u8], anycase: bool) -> bool
+    ensures { λ r. ⌜ r ≡ admitsTuple (expressionBy e (each (fold anycase) (now (x .entry)))) (tupleBy o (now (h .entry))) ⌝ }
 {
     let own = e.scheme;
     let scheme = o.scheme;
-    if !same_scheme(own, scheme) {
+    if !scheme_admits(own, scheme) {
         return false;
     }
     let kind = e.host;
     let port = e.port;
-    let x = ascii::part(s, e.from, e.to);
-    let h = ascii::part(t, o.from, o.to);
     match kind {
         HostKind::None => true,
         HostKind::Any => port_admits(port, scheme, o.port),
         HostKind::Exact => {
-            if ascii::same_lowered(x, h) {
+            if same_host(x, h, anycase) {
                 port_admits(port, scheme, o.port)
             } else {
                 false
             }
         }
         HostKind::Subdomains => {
-            if is_subdomain(x, h) {
+            if is_subdomain(x, h, anycase) {
                 port_admits(port, scheme, o.port)
             } else {
                 false
             }
         }
     }
+}
+
+// Whether an expression with the host `x`, in lower case, admits an origin with the host `h`.
+pub fn parts_admit(e: ExpressionParts, x: &[u8], o: TupleParts, h: &[u8]) -> bool
+    ensures { λ r. ⌜ r ≡ admitsTuple (expressionBy e (now (x .entry))) (tupleBy o (now (h .entry))) ⌝ }
+{
+    parts_match(e, x, o, h, false)
+}
+
+fn admits_tuple(s: &[u8], e: ExpressionRange, t: &[u8], o: TupleRange) -> bool
+    ensures { λ r. ⌜ r ≡ admitsTuple (expressionIn (now (s .entry)) e) (tupleIn (now (t .entry)) o) ⌝ }
+{
+    let scheme = e.scheme;
+    let host = e.host;
+    let port = e.port;
+    let parts = ExpressionParts { scheme, host, port };
+    let k = o.scheme;
+    let origin = TupleParts {
+        scheme: k,
+        port: o.port,
+    };
+    let x = ascii::part(s, e.from, e.to);
+    let h = ascii::part(t, o.from, o.to);
+    parts_match(parts, x, origin, h, true)
 }
 
 // Whether an expression of one text admits an origin of another.

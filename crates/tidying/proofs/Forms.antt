@@ -9,7 +9,7 @@ use Rattle.limits.specs.Limits.{portDigits}
 use Rattle.ascii.specs.Texts.{lowered, partOf}
 use Rattle.origins.specs.Origins.{schemeText, schemeSlashes}
 use Rattle.origins.specs.Answers.{expressionIn, IsPortText}
-use Rattle.origins.specs.NormalForms.{portText, portPartText, expressionPartsText, normalPort, normal, normalForm}
+use Rattle.origins.specs.NormalForms.{portText, portPartText, normalPort, normalForm}
 use Rattle.origins.specs.declared.Scheme.{Scheme}
 use Rattle.origins.specs.declared.Scheme.the-variants.{Http, Https}
 use Rattle.origins.specs.declared.PortPart.{PortPart}
@@ -17,6 +17,7 @@ use Rattle.origins.specs.declared.PortPart.the-variants as part
 use Rattle.origins.specs.declared.PortText.{PortText}
 use Rattle.origins.specs.declared.HostKind.the-variants as kind
 use Rattle.origins.specs.declared.ExpressionRange.{ExpressionRange}
+use Rattle.origins.proofs.Laws.{text-no-host, text-any-host, text-exact, text-below, text-default, text-any-port, text-number, form-parts}
 use Rattle.tidying.specs.Writing.{Adding}
 use Rattle.tidying.proofs.Growing.{adding-on, adding-none}
 
@@ -44,43 +45,36 @@ port-digits n t i = rw (i .text) (take-all (portDigits - t .from) (portText n) (
 
 -- a port-part
 pub port-default : (l : List ℕ) (at : ℕ) (p : PortPart) → p ≡ part.Default → Adding l at (portPartText p) l at
-unfolding portPartText
-port-default l at p e = rw e (adding-none l at)
+port-default l at p e = rw (e, text-default) (adding-none l at)
 
 module _ (l m : List ℕ) (at r : ℕ) (p : PortPart) where
   pub port-any : p ≡ part.Any → Adding l at (58 ∷ 42 ∷ []) m r → Adding l at (portPartText p) m r
-  unfolding portPartText
-  port-any e h = rw e h
+  port-any e h = rw (e, text-any-port) h
 
   pub port-number : (n o : ℕ) (t : PortText) (z : List ℕ) → p ≡ part.Number n → IsPortText n t → Adding l at (58 ∷ []) z o → Adding z o (take (portDigits - t .from) (drop (t .from) (t .bytes))) m r → Adding l at (portPartText p) m r
-  unfolding portPartText
   port-number n o t z e i a b =
-      rw e (adding-on l z m at o r (58 ∷ []) (portText n) a (rw (port-digits n t i) at b))
+      rw (e, text-number n) (adding-on l z m at o r (58 ∷ []) (portText n) a (rw (port-digits n t i) at b))
 
 -- an expression, by its host's kind
 module _ (x : List ℕ) (e : ExpressionRange) (l z : List ℕ) (at r : ℕ) where
   pub form-none : e .host ≡ kind.None → Adding l at (schemeText (e .scheme)) z r → Adding l at (normalForm (expressionIn x e)) z r
-  unfolding normal expressionPartsText
-  form-none k h = rw k h
+  form-none k h = rw (form-parts (expressionIn x e), k, text-no-host) h
 
   module _ (p : PortPart) (q : p ≡ normalPort (e .scheme) (e .port)) (m n : List ℕ) (a b : ℕ) (s : Adding l at (schemeSlashes (e .scheme)) m a) where
     pub form-any : e .host ≡ kind.Any → Adding m a (42 ∷ []) n b → Adding n b (portPartText p) z r → Adding l at (normalForm (expressionIn x e)) z r
-    unfolding normal expressionPartsText
     form-any k u v =
-        rw (k, ← q)
+        rw (form-parts (expressionIn x e), k, ← q, text-any-host)
         (adding-on l m z at a r (schemeSlashes (e .scheme)) (42 ∷ portPartText p) s (adding-on m n z a b r (42 ∷ []) (portPartText p) u v))
 
     module _ (h : List ℕ) (i : h ≡ partOf x (e .from) (e .to)) where
       pub form-exact : e .host ≡ kind.Exact → Adding m a (lowered h) n b → Adding n b (portPartText p) z r → Adding l at (normalForm (expressionIn x e)) z r
-      unfolding normal expressionPartsText
       form-exact k u v =
-          rw (k, ← q, ← i)
+          rw (form-parts (expressionIn x e), k, ← q, ← i, text-exact)
           (adding-on l m z at a r (schemeSlashes (e .scheme)) (lowered h ++ portPartText p) s (adding-on m n z a b r (lowered h) (portPartText p) u v))
 
       pub form-subdomains : e .host ≡ kind.Subdomains → (o : List ℕ) (d : ℕ) → Adding m a (42 ∷ 46 ∷ []) n b → Adding n b (lowered h) o d → Adding o d (portPartText p) z r → Adding l at (normalForm (expressionIn x e)) z r
-      unfolding normal expressionPartsText
       form-subdomains k o d u v w =
-          rw (k, ← q, ← i)
+          rw (form-parts (expressionIn x e), k, ← q, ← i, text-below)
           (adding-on l m z at a r (schemeSlashes (e .scheme)) (42 ∷ 46 ∷ (lowered h ++ portPartText p)) s
           (adding-on m n z a b r (42 ∷ 46 ∷ []) (lowered h ++ portPartText p) u
           (adding-on n o z b d r (lowered h) (portPartText p) v w)))

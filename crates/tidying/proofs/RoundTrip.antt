@@ -22,8 +22,7 @@ use Rattle.origins.specs.Origins.{Origin}
 use Rattle.origins.specs.Expressions.{SourceExpression}
 use Rattle.origins.specs.Matching.{admits, sameOrigin}
 use Rattle.origins.specs.NormalForms.{GoodExpression, expressionText, normal, sameExpression}
-use Rattle.origins.proofs.Laws.{normal-good, normal-normal, normal-admits, same-expression-is, same-expression-self}
-use Rattle.origins.proofs.Plain.{expression-plain}
+use Rattle.origins.proofs.Laws.{normal-good, normal-normal, normal-admits, same-expression-is, same-expression-self, expression-plain}
 use Rattle.items.specs.Items.{Item}
 use Rattle.items.specs.Items.Item.{token, string}
 use Rattle.dictionaries.specs.Dictionaries.{Value, Plain, members}

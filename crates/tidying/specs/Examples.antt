@@ -9,7 +9,7 @@ use Rattle.ascii.specs.Literals.{text}
 use Rattle.ascii.specs.Texts.{every, each, sameBy, sameBytes}
 use Rattle.ascii.specs.Reading.{headOf, headIs, isEmpty, next, skip, letLen, runOf, past, after, mapped, going, adding, onStep, turns}
 use Rattle.features.specs.Features.{features, names, nameOf}
-use Rattle.origins.specs.Hosts.{longer, labels, isLabel, isHost}
+use Rattle.origins.specs.Computing.{computing as originsComputing}
 use Rattle.origins.specs.Ports.{decimalFrom, isNumber, isPortPart, portPartOf}
 use Rattle.origins.specs.Origins.{startsWith}
 use Rattle.origins.specs.Expressions.{hostPartOf, withParts, hostSourceOf, startsLowered, expressionOf}
@@ -39,5 +39,5 @@ rows =
     ∷ []
 
 rows-right : every right rows ≡ true
-unfolding rows every each sameBy lower pick headOf headIs isEmpty next skip letLen runOf past after mapped going adding onStep turns features names nameOf longer labels isLabel isHost decimalFrom isNumber isPortPart portPartOf startsWith hostPartOf withParts hostSourceOf startsLowered expressionOf lastDigits portPartText expressionPartsText normalPort normal sameHost samePort sameExpression keyOf tokenOf booleanOf bytesOf fractionOf unsignedOf numberOf stringTurn stringOf bareOf paramOf paramTurn paramsOf itemOf innerTurn innerOf closedOf listOf loneOf valueOf bareKey assignedOf memberOf partedOf dictTurn readAll dataOf plains plainly into later lastValueIn tokenMeaning sourceMeaning meaningOf hasStar hasSelf withSource sourcesOf allowlist allowlistOf loneDeclares valueDeclares lastDeclares declares eachAfter joinedBy itemText valueText memberText written among unless onceAfter selfItem tidyValue withMember tidyFrom tidied
+unfolding rows every each sameBy lower pick headOf headIs isEmpty next skip letLen runOf past after mapped going adding onStep turns features names nameOf originsComputing decimalFrom isNumber isPortPart portPartOf startsWith hostPartOf withParts hostSourceOf startsLowered expressionOf lastDigits portPartText expressionPartsText normalPort normal sameHost samePort sameExpression keyOf tokenOf booleanOf bytesOf fractionOf unsignedOf numberOf stringTurn stringOf bareOf paramOf paramTurn paramsOf itemOf innerTurn innerOf closedOf listOf loneOf valueOf bareKey assignedOf memberOf partedOf dictTurn readAll dataOf plains plainly into later lastValueIn tokenMeaning sourceMeaning meaningOf hasStar hasSelf withSource sourcesOf allowlist allowlistOf loneDeclares valueDeclares lastDeclares declares eachAfter joinedBy itemText valueText memberText written among unless onceAfter selfItem tidyValue withMember tidyFrom tidied
 rows-right = refl

@@ -1,5 +1,4 @@
 -- `host_source` is right: the run up to a colon is the host part, what is left is the port-part, and both are read as in the definition.
-use native.Mathlib.Omega.{arith}
 use borrow.Author.Needs.{needs}
 use Rattle.origins.proofs.Sources.{source-no-port, source-no-host, source-any, source-exact, source-subdomains}
 use Rattle.origins.proofs.host_source.Statement.{statement}
@@ -9,6 +8,7 @@ pub host-source-spec : {M : Type 1} → statement M
 host-source-spec =
     tie.close
     (tie.spec
+    (λ c κs. search needs)
     (λ c κs. search needs)
     (λ c. search needs)
     (λ c. search needs)

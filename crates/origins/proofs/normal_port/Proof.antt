@@ -1,5 +1,5 @@
 -- `normal_port` is right: each arm is the clause of the definition.
-use Rattle.origins.proofs.Normals.{normal-default, normal-any, normal-dropped, normal-kept}
+use Rattle.origins.proofs.NormalForms.{normal-default, normal-any, normal-dropped, normal-kept}
 use borrow.Author.Needs.{needs}
 use Rattle.origins.proofs.normal_port.Statement.{statement}
 use Rattle.origins.proofs.normal_port.Tie as tie

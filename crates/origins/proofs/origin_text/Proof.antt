@@ -3,7 +3,6 @@ use borrow.Author.Needs.{needs}
 use Rattle.origins.proofs.Readers.{starts-long, origin-empty, origin-null, origin-http, origin-https, origin-other}
 use Rattle.origins.proofs.origin_text.Statement.{statement}
 use Rattle.origins.proofs.origin_text.Tie as tie
-use mathlib.Core.Path.{refl}
 
 pub origin-text-spec : {M : Type 1} → statement M
 origin-text-spec =
@@ -15,14 +14,14 @@ origin-text-spec =
     (λ c. origin-null _ (c .before .before .before .if1 .left) _ (c .before .same .ensures) (c .if2 .taken))
     (λ c. search needs)
     (λ c κs. search needs)
-    (λ c κs. (refl, starts-long _ _ _ (c .before .starts-with .ensures) (c .if3 .taken)))
+    (λ c κs. starts-long _ _ _ (c .before .starts-with .ensures) (c .if3 .taken))
     (λ c.
     let w = c .before .before in
     let n = w .before .before in
     origin-http _ (n .before .before .before .if1 .left) _ (n .before .same .ensures) (n .if2 .left) _ (w .starts-with .ensures) (c .before .if3 .taken) _ (c .tuple .ensures))
     (λ c. search needs)
     (λ c κs. search needs)
-    (λ c κs. (refl, starts-long _ _ _ (c .before .starts-with2 .ensures) (c .if4 .taken)))
+    (λ c κs. starts-long _ _ _ (c .before .starts-with2 .ensures) (c .if4 .taken))
     (λ c.
     let x = c .before .before in
     let w = x .before .before .before in

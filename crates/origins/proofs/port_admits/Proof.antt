@@ -3,9 +3,6 @@ use Rattle.origins.specs.Matching.{portAdmits}
 use borrow.Author.Needs.{needs}
 use Rattle.origins.proofs.port_admits.Statement.{statement}
 use Rattle.origins.proofs.port_admits.Tie as tie
-use Rattle.origins.proofs.port_admits.Reads as reads
-use Rattle.origins.proofs.port_admits.Lts as lts
-use Rattle.origins.proofs.default_port.Reads as default-port-reads
 
 enum-told : tie.Need-enum-told
 enum-told c = search needs

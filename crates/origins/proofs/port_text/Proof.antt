@@ -1,5 +1,4 @@
 -- `port_text` is right: before each digit, what is left to write and what is written make the port.
-use native.Mathlib.Omega.{arith}
 use Rattle.origins.proofs.PortTexts.{Writing, writing-start, writing-on, writing-last, writing-end}
 use borrow.Author.Needs.{needs}
 use Rattle.origins.proofs.port_text.Statement.{statement}

@@ -4,7 +4,7 @@ use Prim.Native.Nat.{_≤_, _-_}
 use lib.ListN.{length, drop}
 use Rattle.ascii.specs.Bytes.{lower}
 use Rattle.ascii.specs.Texts.{lowered, sameBy}
-use Rattle.origins.proofs.Normals.{case-end, case-long, case-short, case-more, case-ne}
+use Rattle.origins.proofs.NormalForms.{case-end, case-long, case-short, case-more, case-ne}
 use borrow.Author.Needs.{needs}
 use Rattle.origins.proofs.same_any_case.Statement.{statement}
 use Rattle.origins.proofs.same_any_case.Tie as tie

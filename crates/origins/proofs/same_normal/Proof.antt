@@ -1,5 +1,5 @@
 -- `same_normal` is right: scheme, port and host are compared as in the definition, on the parts that the ranges cut.
-use Rattle.origins.proofs.Normals.{scheme-differs, port-differs, kind-differs, both-none, both-any, both-exact, both-subdomains}
+use Rattle.origins.proofs.NormalForms.{scheme-differs, port-differs, kind-differs, both-none, both-any, both-exact, both-subdomains}
 use borrow.Author.Needs.{needs}
 use Rattle.origins.proofs.same_normal.Statement.{statement}
 use Rattle.origins.proofs.same_normal.Tie as tie

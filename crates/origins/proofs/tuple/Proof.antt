@@ -1,5 +1,4 @@
 -- `tuple` is right: the run up to a colon is the host, what is left is the port, and both are read as in the definition.
-use native.Mathlib.Omega.{arith}
 use borrow.Author.Needs.{needs}
 use Rattle.origins.proofs.Sources.{tuple-no-host, tuple-no-port, tuple-is}
 use Rattle.origins.proofs.tuple.Statement.{statement}
@@ -9,6 +8,7 @@ pub tuple-spec : {M : Type 1} → statement M
 tuple-spec =
     tie.close
     (tie.spec
+    (λ c κs. search needs)
     (λ c κs. search needs)
     (λ c. search needs)
     (λ c. search needs)
@@ -21,5 +21,9 @@ tuple-spec =
     (λ c κs. search needs)
     (λ c. search needs)
     (λ c. search needs)
-    (λ c. search tuple-is)
+    (λ c.
+    let p = c .before .before .before in
+    let l = p .before .before in
+    let h = l .before .before .before in
+    tuple-is _ _ _ _ (h .before .slashes-length .ensures) (h .before .before .before .pre) (h .run-end .ensures) _ (l .before .is-origin-host .ensures) (l .if1 .left) _ (p .origin-port .ensures) _ (c .before .n .given .1))
     (λ c. search tuple-no-port))

@@ -1,12 +1,12 @@
 -- Origins and expressions, written as texts, are read back. Assumes nothing.
-use mathlib.Core.Path.{_≡_, refl, ap, _∙_, sym}
-use Prim.Native.Nat.{ℕ, _+_, _-_, _≤_, _<_}
+use mathlib.Core.Path.{_≡_, refl}
+use Prim.Native.Nat.{ℕ, _≤_}
 use mathlib.Core.List.{List, [], _∷_, _++_, append-nil}
-use mathlib.Core.Bool.{Bool, true, false, not, _&&_}
-use mathlib.Core.Option.{Option, some, none}
+use mathlib.Core.Bool.{Bool, true, false}
+use mathlib.Core.Option.{some}
 use native.Mathlib.Omega.{arith}
-use lib.ListN.{length, take, drop}
-use lib.Dec.{leb, eqb}
+use lib.ListN.{length}
+use lib.Dec.{eqb}
 use borrow.Author.Tests.{eqb-true, ne-eqb}
 use Rattle.limits.specs.Limits.{lastPort}
 use Rattle.ascii.specs.Bytes.{pick, lower, isDigit}
@@ -16,10 +16,10 @@ use Rattle.ascii.specs.Reading.{headOf, isEmpty, next, runOf, past}
 use Rattle.ascii.proofs.Bytes.{and-left, within-low}
 use Rattle.ascii.proofs.Texts.{every-run, every-past, every-run-whole, every-past-whole}
 use Rattle.origins.specs.Hosts.{isHost}
-use Rattle.origins.specs.Ports.{defaultPort, decimal, isNumber, leadsZero, isPort, originPort, isPortPart, portPartOf}
-use Rattle.origins.specs.Origins.{TupleOrigin, OriginSaid, schemeText, schemeSlashes, startsWith, notColon, withPort, tupleOf, originOf}
+use Rattle.origins.specs.Ports.{defaultPort, isPort, originPort, portPartOf}
+use Rattle.origins.specs.Origins.{TupleOrigin, schemeSlashes, startsWith, notColon, withPort, tupleOf, originOf}
 use Rattle.origins.specs.Origins.OriginSaid.{saysTuple}
-use Rattle.origins.specs.Expressions.{HostPart, SourceExpression, hostPartOf, withParts, schemeSource, hostSourceOf, startsLowered, expressionOf}
+use Rattle.origins.specs.Expressions.{HostPart, SourceExpression, hostPartOf, withParts, hostSourceOf, startsLowered, expressionOf}
 use Rattle.origins.specs.Expressions.HostPart.{noHost, anyHost, exactHost, subdomainsOf}
 use Rattle.origins.specs.NormalForms.{GoodPort, GoodHost, GoodExpression, GoodOrigin, portText, portPartText, expressionPartsText, expressionText, originText}
 use Rattle.origins.specs.declared.Scheme.{Scheme}
@@ -27,6 +27,7 @@ use Rattle.origins.specs.declared.Scheme.the-variants.{Http, Https}
 use Rattle.origins.specs.declared.PortPart.{PortPart}
 use Rattle.origins.specs.declared.PortPart.the-variants.{Default, Any, Number}
 use Rattle.origins.proofs.HostBytes.{isHostByte, host-bytes, host-some, not-star, host-no-colon, host-lower}
+use Rattle.origins.proofs.OriginHosts.{origin-host-no-colon}
 use Rattle.origins.proofs.Decimals.{port-back, port-digits, port-lead, port-number, port-part, port-some}
 
 -- what can follow a host: nothing, or a colon
@@ -90,20 +91,20 @@ unfolding hostSourceOf withParts
 parts-back k g x p e f h =
     rw (hosted k (g ++ portPartText p), host-run g e (port-part-follows p), host-past g e (port-part-follows p), f, port-part-back p h)
 
-expression-back : (k : Scheme) (x : HostPart) (p : PortPart) → GoodHost x p → GoodPort p → expressionOf (expressionPartsText k x p) ≡ some (record { scheme = k; host = x; port = p })
+by-parts-back : (k : Scheme) (x : HostPart) (p : PortPart) → GoodHost x p → GoodPort p → expressionOf (expressionPartsText k x p) ≡ some (record { scheme = k; host = x; port = p })
 unfolding expressionPartsText
-expression-back Http noHost p g h = unfold expressionOf sameBy lower pick in rw g
-expression-back Https noHost p g h = unfold expressionOf sameBy lower pick in rw g
-expression-back k anyHost p g h = parts-back k (42 ∷ []) anyHost p (unfold every in refl) (unfold hostPartOf each sameBy lower pick in refl) h
-expression-back k (exactHost x) p g h =
+by-parts-back Http noHost p g h = unfold expressionOf sameBy lower pick in rw g
+by-parts-back Https noHost p g h = unfold expressionOf sameBy lower pick in rw g
+by-parts-back k anyHost p g h = parts-back k (42 ∷ []) anyHost p (unfold every in refl) (unfold hostPartOf each sameBy lower pick in refl) h
+by-parts-back k (exactHost x) p g h =
     parts-back k x (exactHost x) p (host-no-colon x (host-bytes x g)) (rw (host-lower x (host-bytes x g)) (host-exact-back x g)) h
-expression-back k (subdomainsOf x) p g h =
+by-parts-back k (subdomainsOf x) p g h =
     parts-back k (42 ∷ 46 ∷ x) (subdomainsOf x) p (unfold every in host-no-colon x (host-bytes x g))
     (unfold hostPartOf startsWith each sameBy lower pick in rw (host-lower x (host-bytes x g), g)) h
 
 -- a good expression is read back from its text
-pub text-back : (e : SourceExpression) → GoodExpression e → expressionOf (expressionText e) ≡ some e
-text-back e g = expression-back (e .scheme) (e .host) (e .port) (g .host) (g .port)
+pub expression-back : (e : SourceExpression) → GoodExpression e → expressionOf (expressionText e) ≡ some e
+expression-back e g = by-parts-back (e .scheme) (e .host) (e .port) (g .host) (g .port)
 
 -- the same of origins
 origin-hosted : (k : Scheme) (l : List ℕ) → originOf (schemeSlashes k ++ l) ≡ tupleOf k l
@@ -122,11 +123,11 @@ origin-port-back true k n h e = rw (eqb-true n (defaultPort k) e)
 origin-port-back false k n h e = rw (port-number n h, port-lead n h, port-back n h, e)
 
 -- a good origin is read back from its text
-pub origin-back : (o : TupleOrigin) → GoodOrigin o → originOf (originText o) ≡ saysTuple o
+pub good-tuple : (o : TupleOrigin) → GoodOrigin o → originOf (originText o) ≡ saysTuple o
 unfolding originText tupleOf withPort
-origin-back o g =
+good-tuple o g =
     let b = eqb (o .port) (defaultPort (o .scheme)) in
     let m = pick b [] (58 ∷ portText (o .port)) in
-    let e : every notColon (o .host) ≡ true = host-no-colon (o .host) (host-bytes (o .host) (g .host)) in
+    let e : every notColon (o .host) ≡ true = origin-host-no-colon (o .host) (g .host) in
     let f : Follows m = port-follows b (portText (o .port)) in
     rw (origin-hosted (o .scheme) (o .host ++ m), host-run (o .host) e f, host-past (o .host) e f, g .host, origin-port-back b (o .scheme) (o .port) (g .port) refl) (unfold pick in refl)

@@ -2,7 +2,7 @@
 use mathlib.Core.Path.{_≡_, refl}
 use Prim.Native.Nat.{ℕ}
 use mathlib.Core.List.{List, [], _∷_, _++_}
-use mathlib.Core.Bool.{Bool, true, _&&_}
+use mathlib.Core.Bool.{true}
 use Rattle.ascii.specs.Texts.{every}
 use Rattle.ascii.proofs.Bytes.{and-left, and-right}
 use Rattle.origins.specs.Origins.{schemeText, schemeSlashes}

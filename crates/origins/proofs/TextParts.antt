@@ -1,34 +1,31 @@
--- What a reading says of its text: the converse of reading back. Assumes nothing.
-use mathlib.Core.Path.{_≡_, refl, ap, _∙_, sym, subst}
-use Prim.Native.Nat.{ℕ, _+_, _-_, _≤_, _<_, min}
+-- The parts of a text that says an origin or is an expression: the converse of reading back. Assumes nothing.
+use mathlib.Core.Path.{_≡_, refl, ap, _∙_, sym}
+use Prim.Native.Nat.{ℕ, _≤_}
 use mathlib.Core.List.{List, [], _∷_, _++_}
-use mathlib.Core.Bool.{Bool, true, false, not, _&&_}
+use mathlib.Core.Bool.{Bool, true, false, not}
 use mathlib.Core.Option.{Option, some, none}
-use lib.ListN.{length, take, drop, length-append, length-drop, length-take, take-append-drop}
-use lib.Seq.{take-at, drop-drop, drop-append-le}
+use lib.ListN.{length, take, drop, take-append-drop}
 use lib.Dec.{eqb}
 use borrow.Author.Tests.{eqb-true}
 use Rattle.ascii.proofs.Clash.{clash}
-use Rattle.ascii.specs.Bytes.{pick, lower}
+use Rattle.ascii.specs.Bytes.{pick}
 use Rattle.ascii.specs.Literals.{text}
-use Rattle.ascii.specs.Texts.{each, lowered, sameBytes, sameLowered, partOf}
-use Rattle.ascii.specs.Reading.{isEmpty, next, runOf, past}
-use Rattle.ascii.proofs.Texts.{bytes-same, part-in}
+use Rattle.ascii.specs.Texts.{lowered, sameBytes, sameLowered}
+use Rattle.ascii.specs.Reading.{isEmpty, runOf, past}
+use Rattle.ascii.proofs.Texts.{bytes-same}
 use Rattle.ascii.proofs.Reading.{run-cut}
-use Rattle.origins.specs.Hosts.{isHost}
-use Rattle.origins.specs.Ports.{decimal, isPortPart, originPort, portPartOf}
-use Rattle.origins.specs.Origins.{TupleOrigin, OriginSaid, schemeText, schemeSlashes, nullText, startsWith, notColon, withPort, tupleOf, originOf}
+use Rattle.origins.specs.Hosts.{isHost, isOriginHost}
+use Rattle.origins.specs.Ports.{originPort, portPartOf}
+use Rattle.origins.specs.Origins.{TupleOrigin, schemeText, schemeSlashes, pastScheme, nullText, startsWith, notColon, withPort, tupleOf, originOf}
 use Rattle.origins.specs.Origins.OriginSaid.{saysEmpty, saysNull, saysTuple, noOrigin}
 use Rattle.origins.specs.Expressions.{HostPart, SourceExpression, hostPartOf, withParts, schemeSource, hostSourceOf, startsLowered, expressionOf}
-use Rattle.origins.specs.Expressions.HostPart.{noHost, anyHost, exactHost, subdomainsOf}
+use Rattle.origins.specs.Expressions.HostPart.{anyHost, exactHost, subdomainsOf}
 use Rattle.origins.specs.declared.Scheme.{Scheme}
 use Rattle.origins.specs.declared.Scheme.the-variants.{Http, Https}
 use Rattle.origins.specs.declared.PortPart.{PortPart}
-use Rattle.origins.specs.declared.PortPart.the-variants.{Default, Any, Number}
-use Rattle.origins.proofs.Steps.{each-length}
-use Rattle.origins.proofs.Readers.{starts-long, starts-lowered-long}
-use Rattle.origins.proofs.Back.{Follows}
-use Rattle.origins.proofs.Back.Follows.{nothing, colon}
+use Rattle.origins.proofs.Readers.{starts-lowered-long}
+use Rattle.origins.proofs.ReadBack.{Follows}
+use Rattle.origins.proofs.ReadBack.Follows.{nothing, colon}
 
 -- past a run without colons stands nothing, or a colon
 colon-follows : (l : List ℕ) → Follows (past notColon l)
@@ -53,10 +50,10 @@ pub record OriginParts (s : List ℕ) (o : TupleOrigin) : Type 0 where
   pub rest : List ℕ
   pub follows : Follows rest
   pub is : s ≡ schemeSlashes (o .scheme) ++ (o .host ++ rest)
-  pub host : isHost (o .host) ≡ true
+  pub host : isOriginHost (o .host) ≡ true
   pub port : originPort (o .scheme) rest ≡ some (o .port)
 
-tuple-said : (k : Scheme) (s l : List ℕ) (o : TupleOrigin) → s ≡ schemeSlashes k ++ l → (b : Bool) (q : Option ℕ) → isHost (runOf notColon l) ≡ b → originPort k (past notColon l) ≡ q → pick b (withPort k (runOf notColon l) q) noOrigin ≡ saysTuple o → OriginParts s o
+tuple-said : (k : Scheme) (s l : List ℕ) (o : TupleOrigin) → s ≡ schemeSlashes k ++ l → (b : Bool) (q : Option ℕ) → isOriginHost (runOf notColon l) ≡ b → originPort k (past notColon l) ≡ q → pick b (withPort k (runOf notColon l) q) noOrigin ≡ saysTuple o → OriginParts s o
 unfolding pick withPort
 tuple-said k s l o e true (some n) h p f =
     let r : _≡_ {A = TupleOrigin} (record { scheme = k; host = runOf notColon l; port = n }) o = cc in
@@ -65,17 +62,17 @@ tuple-said k s l o e true (some n) h p f =
 tuple-said k s l o e true none h p f = clash cc
 tuple-said k s l o e false q h p f = clash cc
 
-tuple-parts : (k : Scheme) (s : List ℕ) (o : TupleOrigin) → startsWith (schemeSlashes k) s ≡ true → tupleOf k (drop (length (schemeSlashes k)) s) ≡ saysTuple o → OriginParts s o
+tuple-parts : (k : Scheme) (s : List ℕ) (o : TupleOrigin) → startsWith (schemeSlashes k) s ≡ true → tupleOf k (pastScheme k s) ≡ saysTuple o → OriginParts s o
 unfolding tupleOf
 tuple-parts k s o e f =
-    let l = drop (length (schemeSlashes k)) s in
-    tuple-said k s l o (starts-is (schemeSlashes k) s e) (isHost (runOf notColon l)) (originPort k (past notColon l)) refl refl f
+    let l = pastScheme k s in
+    tuple-said k s l o (starts-is (schemeSlashes k) s e) (isOriginHost (runOf notColon l)) (originPort k (past notColon l)) refl refl f
 
 pub origin-parts : (s : List ℕ) (o : TupleOrigin) → originOf s ≡ saysTuple o → OriginParts s o
 unfolding originOf
 origin-parts s o e = go (isEmpty s) (sameBytes s nullText) (startsWith (schemeSlashes Http) s) (startsWith (schemeSlashes Https) s) refl refl e
   where
-    go : (a b c d : Bool) → startsWith (schemeSlashes Http) s ≡ c → startsWith (schemeSlashes Https) s ≡ d → pick a saysEmpty (pick b saysNull (pick c (tupleOf Http (drop 7 s)) (pick d (tupleOf Https (drop 8 s)) noOrigin))) ≡ saysTuple o → OriginParts s o
+    go : (a b c d : Bool) → startsWith (schemeSlashes Http) s ≡ c → startsWith (schemeSlashes Https) s ≡ d → pick a saysEmpty (pick b saysNull (pick c (tupleOf Http (pastScheme Http s)) (pick d (tupleOf Https (pastScheme Https s)) noOrigin))) ≡ saysTuple o → OriginParts s o
     go true b c d u v f = clash (unfold pick in cc)
     go false true c d u v f = clash (unfold pick in cc)
     go false false true d u v f = tuple-parts Http s o u (unfold pick in f)
@@ -85,33 +82,33 @@ origin-parts s o e = go (isEmpty s) (sameBytes s nullText) (startsWith (schemeSl
 -- only the empty text says "empty", and only `null` "null"
 tuple-no-empty : (k : Scheme) (l : List ℕ) → (tupleOf k l ≡ saysEmpty → ⊥) × (tupleOf k l ≡ saysNull → ⊥)
 unfolding tupleOf
-tuple-no-empty k l = go (isHost (runOf notColon l)) (originPort k (past notColon l))
+tuple-no-empty k l = go (isOriginHost (runOf notColon l)) (originPort k (past notColon l))
   where
     go : (b : Bool) (q : Option ℕ) → (pick b (withPort k (runOf notColon l) q) noOrigin ≡ saysEmpty → ⊥) × (pick b (withPort k (runOf notColon l) q) noOrigin ≡ saysNull → ⊥)
     go true (some n) = (λ f. clash (unfold pick withPort in cc), λ f. clash (unfold pick withPort in cc))
     go true none = (λ f. clash (unfold pick withPort in cc), λ f. clash (unfold pick withPort in cc))
     go false q = (λ f. clash (unfold pick in cc), λ f. clash (unfold pick in cc))
 
-pub said-empty : (s : List ℕ) → originOf s ≡ saysEmpty → s ≡ []
+pub empty-text : (s : List ℕ) → originOf s ≡ saysEmpty → s ≡ []
 unfolding originOf
-said-empty s e = go (isEmpty s) (sameBytes s nullText) (startsWith (schemeSlashes Http) s) (startsWith (schemeSlashes Https) s) refl e
+empty-text s e = go (isEmpty s) (sameBytes s nullText) (startsWith (schemeSlashes Http) s) (startsWith (schemeSlashes Https) s) refl e
   where
-    go : (a b c d : Bool) → isEmpty s ≡ a → pick a saysEmpty (pick b saysNull (pick c (tupleOf Http (drop 7 s)) (pick d (tupleOf Https (drop 8 s)) noOrigin))) ≡ saysEmpty → s ≡ []
+    go : (a b c d : Bool) → isEmpty s ≡ a → pick a saysEmpty (pick b saysNull (pick c (tupleOf Http (pastScheme Http s)) (pick d (tupleOf Https (pastScheme Https s)) noOrigin))) ≡ saysEmpty → s ≡ []
     go true b c d u f = empty-is s u
     go false true c d u f = clash (unfold pick in cc)
-    go false false true d u f = absurd (tuple-no-empty Http (drop 7 s) .0 (unfold pick in f))
-    go false false false true u f = absurd (tuple-no-empty Https (drop 8 s) .0 (unfold pick in f))
+    go false false true d u f = absurd (tuple-no-empty Http (pastScheme Http s) .0 (unfold pick in f))
+    go false false false true u f = absurd (tuple-no-empty Https (pastScheme Https s) .0 (unfold pick in f))
     go false false false false u f = clash (unfold pick in cc)
 
-pub said-null : (s : List ℕ) → originOf s ≡ saysNull → s ≡ nullText
+pub null-text : (s : List ℕ) → originOf s ≡ saysNull → s ≡ nullText
 unfolding originOf
-said-null s e = go (isEmpty s) (sameBytes s nullText) (startsWith (schemeSlashes Http) s) (startsWith (schemeSlashes Https) s) refl e
+null-text s e = go (isEmpty s) (sameBytes s nullText) (startsWith (schemeSlashes Http) s) (startsWith (schemeSlashes Https) s) refl e
   where
-    go : (a b c d : Bool) → sameBytes s nullText ≡ b → pick a saysEmpty (pick b saysNull (pick c (tupleOf Http (drop 7 s)) (pick d (tupleOf Https (drop 8 s)) noOrigin))) ≡ saysNull → s ≡ nullText
+    go : (a b c d : Bool) → sameBytes s nullText ≡ b → pick a saysEmpty (pick b saysNull (pick c (tupleOf Http (pastScheme Http s)) (pick d (tupleOf Https (pastScheme Https s)) noOrigin))) ≡ saysNull → s ≡ nullText
     go true b c d u f = clash (unfold pick in cc)
     go false true c d u f = bytes-same s nullText u
-    go false false true d u f = absurd (tuple-no-empty Http (drop 7 s) .1 (unfold pick in f))
-    go false false false true u f = absurd (tuple-no-empty Https (drop 8 s) .1 (unfold pick in f))
+    go false false true d u f = absurd (tuple-no-empty Http (pastScheme Http s) .1 (unfold pick in f))
+    go false false false true u f = absurd (tuple-no-empty Https (pastScheme Https s) .1 (unfold pick in f))
     go false false false false u f = clash (unfold pick in cc)
 
 -- a host part is one of three
@@ -130,10 +127,10 @@ host-cases g x e P l m n = host-said g x (sameBytes g (text "*")) (startsWith (t
 -- a text that is an expression: a scheme alone, or past its scheme and `://` a host part and a port-part
 pub record SourceParts (s : List ℕ) (e : SourceExpression) : Type 0 where
   pub long : length (schemeSlashes (e .scheme)) ≤ length s
-  pub host : hostPartOf (lowered (runOf notColon (drop (length (schemeSlashes (e .scheme))) s))) ≡ some (e .host)
-  pub port : portPartOf (past notColon (drop (length (schemeSlashes (e .scheme))) s)) ≡ some (e .port)
+  pub host : hostPartOf (lowered (runOf notColon (pastScheme (e .scheme) s))) ≡ some (e .host)
+  pub port : portPartOf (past notColon (pastScheme (e .scheme) s)) ≡ some (e .port)
 
-source-said : (k : Scheme) (s : List ℕ) (e : SourceExpression) → length (schemeSlashes k) ≤ length s → (x : Option HostPart) (p : Option PortPart) → hostPartOf (lowered (runOf notColon (drop (length (schemeSlashes k)) s))) ≡ x → portPartOf (past notColon (drop (length (schemeSlashes k)) s)) ≡ p → withParts k x p ≡ some e → SourceParts s e
+source-said : (k : Scheme) (s : List ℕ) (e : SourceExpression) → length (schemeSlashes k) ≤ length s → (x : Option HostPart) (p : Option PortPart) → hostPartOf (lowered (runOf notColon (pastScheme k s))) ≡ x → portPartOf (past notColon (pastScheme k s)) ≡ p → withParts k x p ≡ some e → SourceParts s e
 unfolding withParts
 source-said k s e n (some x) (some p) h q f =
     let r : _≡_ {A = SourceExpression} (record { scheme = k; host = x; port = p }) e = cc in
@@ -142,16 +139,16 @@ source-said k s e n (some x) (some p) h q f =
 source-said k s e n (some x) none h q f = clash cc
 source-said k s e n none p h q f = clash cc
 
-source-parts : (k : Scheme) (s : List ℕ) (e : SourceExpression) → startsLowered (schemeSlashes k) s ≡ true → hostSourceOf k (drop (length (schemeSlashes k)) s) ≡ some e → SourceParts s e
+source-parts : (k : Scheme) (s : List ℕ) (e : SourceExpression) → startsLowered (schemeSlashes k) s ≡ true → hostSourceOf k (pastScheme k s) ≡ some e → SourceParts s e
 unfolding hostSourceOf
 source-parts k s e u f =
-    source-said k s e (starts-lowered-long (schemeSlashes k) s true (sym u) refl) (hostPartOf (lowered (runOf notColon (drop (length (schemeSlashes k)) s)))) (portPartOf (past notColon (drop (length (schemeSlashes k)) s))) refl refl f
+    source-said k s e (starts-lowered-long (schemeSlashes k) s true (sym u) refl) (hostPartOf (lowered (runOf notColon (pastScheme k s)))) (portPartOf (past notColon (pastScheme k s))) refl refl f
 
 pub source-cases : (s : List ℕ) (e : SourceExpression) → expressionOf s ≡ some e → (P : Type 0) → ((k : Scheme) → e ≡ schemeSource k → P) → (SourceParts s e → P) → P
 unfolding expressionOf
 source-cases s e f P l m = go (sameLowered s (schemeText Http)) (sameLowered s (schemeText Https)) (startsLowered (schemeSlashes Http) s) (startsLowered (schemeSlashes Https) s) refl refl f
   where
-    go : (a b c d : Bool) → startsLowered (schemeSlashes Http) s ≡ c → startsLowered (schemeSlashes Https) s ≡ d → pick a (some (schemeSource Http)) (pick b (some (schemeSource Https)) (pick c (hostSourceOf Http (drop 7 s)) (pick d (hostSourceOf Https (drop 8 s)) none))) ≡ some e → P
+    go : (a b c d : Bool) → startsLowered (schemeSlashes Http) s ≡ c → startsLowered (schemeSlashes Https) s ≡ d → pick a (some (schemeSource Http)) (pick b (some (schemeSource Https)) (pick c (hostSourceOf Http (pastScheme Http s)) (pick d (hostSourceOf Https (pastScheme Https s)) none))) ≡ some e → P
     go true b c d u v g = l Http (unfold pick in cc)
     go false true c d u v g = l Https (unfold pick in cc)
     go false false true d u v g = m (source-parts Http s e u (unfold pick in g))
