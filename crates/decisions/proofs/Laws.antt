@@ -11,7 +11,6 @@ use lib.Dec.{ltb, eqb}
 use lib.ListN.{getD}
 use borrow.Author.Tests.{ltb-true, ltb-false}
 use Rattle.ascii.proofs.Clash.{clash}
-use Rattle.ascii.proofs.Bytes.{and-false}
 use Rattle.features.specs.Features.{Default, featureCount, defaultOf}
 use Rattle.features.specs.Features.Default.{star, self}
 use Rattle.features.specs.Answers.{defaultIn}
@@ -19,68 +18,55 @@ use Rattle.features.specs.declared.DefaultOf.{DefaultOf}
 use Rattle.origins.specs.Origins.{Origin}
 use Rattle.origins.specs.Origins.Origin.{tuple, opaque, fresh}
 use Rattle.origins.specs.Matching.{sameOrigin}
-use Rattle.origins.specs.Answers.{originIn}
-use Rattle.origins.specs.declared.OriginRange.{OriginRange}
 use Rattle.origins.proofs.Laws.{tuple-self, opaque-self, fresh-left}
-use Rattle.declarations.specs.Allowlists.{Allowlist, allows}
-use Rattle.declarations.specs.Allowlists.Allowlist.{all, listed}
-use Rattle.declarations.specs.Settings.{settingAs, someAdmits, admissionAs}
-use Rattle.declarations.specs.Widening.{DeclaresMore}
-use Rattle.declarations.specs.Widening.DeclaresMore.{neither, both}
-use Rattle.declarations.specs.declared.Setting.{Setting}
-use Rattle.declarations.specs.declared.Admission.{Admission}
-use Rattle.declarations.proofs.Laws.{some-allows, none-allows, more-self, listed-fresh, listed-opaque}
-use Rattle.containers.specs.Allowlists as attribute
-use Rattle.containers.proofs.Laws.{fresh-all, opaque-all}
-use Rattle.containers.specs.Answers.{policyIn}
-use Rattle.containers.specs.Widening.{AllowsMore}
-use Rattle.containers.specs.Widening as widening
-use Rattle.containers.specs.declared.ContainerPolicy.{ContainerPolicy}
+use Rattle.allowlists.specs.Allowlists.{Allowlist, listAdmits, allows, someAdmits}
+use Rattle.allowlists.specs.Allowlists.Allowlist.{all}
+use Rattle.allowlists.specs.Answers.{admissionAs, admissionIn}
+use Rattle.allowlists.specs.Widening.{AsWide}
+use Rattle.allowlists.specs.Widening.AsWide.{neither, both}
+use Rattle.allowlists.specs.declared.Admission.{Admission}
+use Rattle.allowlists.proofs.Laws.{some-admits, none-admits, admission-back, allows-fresh, allows-opaque, as-wide-self}
+use Rattle.declarations.specs.Declarations.{declaredAdmits}
+use Rattle.declarations.proofs.Laws.{declared-some, declared-none, declared-told, declared-fresh, declared-opaque}
 use Rattle.decisions.specs.Decisions.{Decision, decided, unlessDisabled, byList, byDefault, valueBy, inheritedBy, questionBy}
 use Rattle.decisions.specs.Decisions.Decision.{disabled, enabled}
 use Rattle.decisions.specs.Masks.{bitOf, maskBelow, maskOf, decisionAt}
-use Rattle.decisions.specs.Policies.{Policy, Frame, attributeAdmits, value, inheritedFramed, question, valueIn, questionIn, inheritedIn, enabledMask, forecast}
+use Rattle.decisions.specs.Policies.{Policy, Frame, value, inheritedFramed, question, valueIn, questionIn, inheritedIn, enabledMask, forecast}
 use Rattle.decisions.specs.Widening.{Stays, WiderPolicy, WiderFrame}
-use Rattle.decisions.specs.Answers.{decisionIn, admissionIn, attributeIn, decisionsIn}
+use Rattle.decisions.specs.Answers.{decisionIn, decisionsIn}
 use Rattle.decisions.specs.declared.Decision.{Decision as Answer}
 use Rattle.decisions.specs.declared.Decision.the-variants as answer
-use Rattle.decisions.specs.declared.AttributeAnswer.{AttributeAnswer}
 use Rattle.decisions.proofs.Masks.{mask-lt, mask-bit, bits-past}
 
--- what `admits` answered, read again
-admission-back : (x : Option Bool) → admissionIn (admissionAs x) ≡ x
-admission-back (some true) = refl
-admission-back (some false) = refl
-admission-back none = refl
+-- the answer of `value`, told what a declared list answered, is *Value*
+module _ (d : Option Allowlist) (own o : Origin) (same : Bool) (a : Admission) (i r : Answer) (is-same : same ≡ sameOrigin own o) (admitted : a ≡ admissionAs (someAdmits d same false o)) where
+  answered : admissionIn a ≡ declaredAdmits d own o
+  answered = ap admissionIn admitted ∙ admission-back (someAdmits d same false o) ∙ declared-told d same own o is-same
 
--- the answer of `value`, told what `declarations::admits` answered for a setting, is *Value* of the list that the setting says
-module _ (s t : List ℕ) (d : Setting) (own : Origin) (o : OriginRange) (same : Bool) (a : Admission) (i r : Answer)
-    (is-same : same ≡ sameOrigin own (originIn t o))
-    (admitted : a ≡ admissionAs (someAdmits (settingAs s d) same (originIn t o))) where
-  answered : admissionIn a ≡ someAdmits (settingAs s d) (sameOrigin own (originIn t o)) (originIn t o)
-  answered = ap admissionIn admitted ∙ admission-back (someAdmits (settingAs s d) same (originIn t o)) ∙ ap (λ (b : Bool). someAdmits (settingAs s d) b (originIn t o)) is-same
-
-  pub value-says : decisionIn r ≡ valueBy (decisionIn i) (admissionIn a) → decisionIn r ≡ value (decisionIn i) (settingAs s d) own (originIn t o)
+  pub value-says : decisionIn r ≡ valueBy (decisionIn i) (admissionIn a) → decisionIn r ≡ value (decisionIn i) d own o
   unfolding value
   value-says is = is ∙ ap (valueBy (decisionIn i)) answered
 
   -- and that of `question` is *Question*
-  pub question-says : (default : DefaultOf) → decisionIn r ≡ questionBy (decisionIn i) (admissionIn a) (defaultIn default) same → decisionIn r ≡ question (decisionIn i) (settingAs s d) (defaultIn default) own (originIn t o)
+  pub question-says : (default : DefaultOf) → decisionIn r ≡ questionBy (decisionIn i) (admissionIn a) (defaultIn default) same → decisionIn r ≡ question (decisionIn i) d (defaultIn default) own o
   unfolding question
   question-says default is =
       is
       ∙ ap (λ (x : Option Bool). questionBy (decisionIn i) x (defaultIn default) same) answered
-      ∙ ap (questionBy (decisionIn i) (someAdmits (settingAs s d) (sameOrigin own (originIn t o)) (originIn t o)) (defaultIn default)) is-same
+      ∙ ap (questionBy (decisionIn i) (declaredAdmits d own o) (defaultIn default)) is-same
 
--- the answer of `inherited`, told what `attribute_admits` answered for a container policy, is *Inherited* of the list that the policy says
-module _ (s t : List ℕ) (p : ContainerPolicy) (container declared : Origin) (o : OriginRange) (container-same declared-same : Bool) (x : AttributeAnswer)
-    (is-container : container-same ≡ sameOrigin container (originIn t o))
-    (is-declared : declared-same ≡ sameOrigin declared (originIn t o))
-    (admitted : attributeIn x ≡ attributeAdmits (policyIn s p) container-same declared-same (originIn t o)) where
-  pub inherited-says : (valueOwn valueArriving r : Answer) (default : DefaultOf) → decisionIn r ≡ inheritedBy (decisionIn valueOwn) (decisionIn valueArriving) (attributeIn x) (defaultIn default) container-same
-      → decisionIn r ≡ inheritedFramed (decisionIn valueOwn) (decisionIn valueArriving) (policyIn s p) (defaultIn default) container declared (originIn t o)
+-- the answer of `inherited`, told what a container policy answered, is *Inherited*
+module _ (allowed : Option Allowlist) (container declared o : Origin) (is-container is-declared : Bool) (a : Admission)
+    (told-container : is-container ≡ sameOrigin container o)
+    (told-declared : is-declared ≡ sameOrigin declared o)
+    (admitted : a ≡ admissionAs (someAdmits allowed is-container is-declared o)) where
+  allowed-answer : admissionIn a ≡ someAdmits allowed is-container is-declared o
+  allowed-answer = ap admissionIn admitted ∙ admission-back (someAdmits allowed is-container is-declared o)
+
+  pub inherited-says : (valueOwn valueArriving r : Answer) (default : DefaultOf) → decisionIn r ≡ inheritedBy (decisionIn valueOwn) (decisionIn valueArriving) (admissionIn a) (defaultIn default) is-container
+      → decisionIn r ≡ inheritedFramed (decisionIn valueOwn) (decisionIn valueArriving) allowed (defaultIn default) container declared o
   unfolding inheritedFramed
-  inherited-says valueOwn valueArriving r default is = rw (← is-container, ← is-declared, ← admitted) is
+  inherited-says valueOwn valueArriving r default is = rw (← told-container, ← told-declared, ← allowed-answer) is
 
 -- at the own origin of a document *Question* and *Value* agree
 own-default : (default : Option Default) → byDefault default true ≡ enabled
@@ -109,11 +95,11 @@ unfolding question questionBy unlessDisabled
 question-disabled declared default own o = refl
 
 -- a container's value that is Disabled for its own origin, or for the arriving one, is Disabled inherited, whatever the attributes say
-pub inherited-own : (valueArriving : Decision) (allowed : Option attribute.Allowlist) (default : Option Default) (container declared arriving : Origin) → inheritedFramed disabled valueArriving allowed default container declared arriving ≡ disabled
+pub inherited-own : (valueArriving : Decision) (allowed : Option Allowlist) (default : Option Default) (container declared arriving : Origin) → inheritedFramed disabled valueArriving allowed default container declared arriving ≡ disabled
 unfolding inheritedFramed inheritedBy unlessDisabled
 inherited-own valueArriving allowed default container declared arriving = refl
 
-pub inherited-arriving : (valueOwn : Decision) (allowed : Option attribute.Allowlist) (default : Option Default) (container declared arriving : Origin) → inheritedFramed valueOwn disabled allowed default container declared arriving ≡ disabled
+pub inherited-arriving : (valueOwn : Decision) (allowed : Option Allowlist) (default : Option Default) (container declared arriving : Origin) → inheritedFramed valueOwn disabled allowed default container declared arriving ≡ disabled
 unfolding inheritedFramed inheritedBy unlessDisabled
 inherited-arriving disabled allowed default container declared arriving = refl
 inherited-arriving enabled allowed default container declared arriving = refl
@@ -152,43 +138,44 @@ unfolding decided
 decided-yes true e = refl
 decided-yes false e = clash cc
 
-fresh-list : (l : Allowlist) (own : Origin) → allows l own fresh ≡ true → l ≡ all
-fresh-list all own e = refl
-fresh-list (listed b es) own e = absurd (let f : allows (listed b es) own fresh ≡ false = listed-fresh b es own in clash cc)
-
-opaque-list : (l : Allowlist) (own : Origin) (n : ℕ) → sameOrigin own (opaque n) ≡ false → allows l own (opaque n) ≡ true → l ≡ all
-opaque-list all own n h e = refl
-opaque-list (listed b es) own n h e = absurd (let f : allows (listed b es) own (opaque n) ≡ false = listed-opaque b es own n ∙ (rw h (and-false b)) in clash cc)
-
 unless-then : (d e : Decision) → unlessDisabled d e ≡ enabled → e ≡ enabled
 unfolding unlessDisabled
 unless-then disabled e k = clash cc
 unless-then enabled e k = k
 
+decided-some : (x : Option Bool) (b : Bool) → x ≡ some b → byList x enabled ≡ enabled → x ≡ some true
+unfolding byList
+decided-some (some true) b e k = refl
+decided-some (some false) b e k = clash (unfold decided in cc)
+decided-some none b e k = clash cc
+
 pub value-fresh : (i : Decision) (l : Allowlist) (own : Origin) → value i (some l) own fresh ≡ enabled → l ≡ all
-unfolding value valueBy byList
+unfolding value valueBy
 value-fresh i l own e =
-    fresh-list l own (decided-yes (allows l own fresh) (rw (some-allows l own fresh) at (unless-then i (byList (someAdmits (some l) (sameOrigin own fresh) fresh) enabled) e)))
+    declared-fresh l own
+    (decided-some (declaredAdmits (some l) own fresh) (listAdmits l (sameOrigin own fresh) false fresh) (declared-some l own fresh) (unless-then i (byList (declaredAdmits (some l) own fresh) enabled) e))
 
 -- and in the attribute, whatever the declared origin is
-pub inherited-fresh : (c d : Decision) (l : attribute.Allowlist) (default : Option Default) (container declared : Origin) → inheritedFramed c d (some l) default container declared fresh ≡ enabled → l ≡ attribute.Allowlist.all
-unfolding inheritedFramed inheritedBy byList attributeAdmits
+pub inherited-fresh : (c d : Decision) (l : Allowlist) (default : Option Default) (container declared : Origin) → inheritedFramed c d (some l) default container declared fresh ≡ enabled → l ≡ all
+unfolding inheritedFramed inheritedBy
 inherited-fresh c d l default container declared e =
-    let k = decided (attribute.allows l container declared fresh) in
-    fresh-all l container declared (decided-yes (attribute.allows l container declared fresh) (unless-then d k (unless-then c (unlessDisabled d k) e)))
+    let k = decided (allows l container declared fresh) in
+    allows-fresh l container declared
+    (decided-yes (allows l container declared fresh) (unless-then d k (unless-then c (unlessDisabled d k) (unfold byList in (rw (some-admits l (sameOrigin container fresh) (sameOrigin declared fresh) fresh) at e)))))
 
 -- an opaque origin too, where it is not the container's: a sandboxed document arrives at one, and its frame's declared origin is fresh
 pub value-opaque : (i : Decision) (l : Allowlist) (own : Origin) (n : ℕ) → sameOrigin own (opaque n) ≡ false → value i (some l) own (opaque n) ≡ enabled → l ≡ all
-unfolding value valueBy byList
+unfolding value valueBy
 value-opaque i l own n h e =
-    opaque-list l own n h
-    (decided-yes (allows l own (opaque n)) (rw (some-allows l own (opaque n)) at (unless-then i (byList (someAdmits (some l) (sameOrigin own (opaque n)) (opaque n)) enabled) e)))
+    declared-opaque l own n h
+    (decided-some (declaredAdmits (some l) own (opaque n)) (listAdmits l (sameOrigin own (opaque n)) false (opaque n)) (declared-some l own (opaque n)) (unless-then i (byList (declaredAdmits (some l) own (opaque n)) enabled) e))
 
-pub inherited-opaque : (c d : Decision) (l : attribute.Allowlist) (default : Option Default) (container : Origin) (n : ℕ) → sameOrigin container (opaque n) ≡ false → inheritedFramed c d (some l) default container fresh (opaque n) ≡ enabled → l ≡ attribute.Allowlist.all
-unfolding inheritedFramed inheritedBy byList attributeAdmits
+pub inherited-opaque : (c d : Decision) (l : Allowlist) (default : Option Default) (container : Origin) (n : ℕ) → sameOrigin container (opaque n) ≡ false → inheritedFramed c d (some l) default container fresh (opaque n) ≡ enabled → l ≡ all
+unfolding inheritedFramed inheritedBy
 inherited-opaque c d l default container n h e =
-    let k = decided (attribute.allows l container fresh (opaque n)) in
-    opaque-all l container fresh n h (fresh-left (opaque n)) (decided-yes (attribute.allows l container fresh (opaque n)) (unless-then d k (unless-then c (unlessDisabled d k) e)))
+    let k = decided (allows l container fresh (opaque n)) in
+    allows-opaque l container fresh n h (fresh-left (opaque n))
+    (decided-yes (allows l container fresh (opaque n)) (unless-then d k (unless-then c (unlessDisabled d k) (unfold byList in (rw (some-admits l (sameOrigin container (opaque n)) (sameOrigin fresh (opaque n)) (opaque n)) at e)))))
 
 -- without an entry only the default `*` admits an origin that is not the container's
 default-star : (default : Option Default) → byDefault default false ≡ enabled → default ≡ some star
@@ -198,10 +185,10 @@ default-star (some self) e = clash cc
 default-star none e = clash cc
 
 pub inherited-default : (c d : Decision) (default : Option Default) (container declared arriving : Origin) → sameOrigin container arriving ≡ false → inheritedFramed c d none default container declared arriving ≡ enabled → default ≡ some star
-unfolding inheritedFramed inheritedBy byList attributeAdmits
+unfolding inheritedFramed inheritedBy byList
 inherited-default c d default container declared arriving h e =
     let k = byDefault default false in
-    default-star default (unless-then d k (unless-then c (unlessDisabled d k) (rw h at e)))
+    default-star default (unless-then d k (unless-then c (unlessDisabled d k) (rw (none-admits (sameOrigin container arriving) (sameOrigin declared arriving) arriving, h) at e)))
 
 -- what stays Enabled: decisions put together from decisions that do
 pub stays-self : (d : Decision) → Stays d d
@@ -233,42 +220,36 @@ unfolding byList
 list-stays d no-lists = stays-self d
 list-stays d (lists {a} {b} h) = record { keeps = decided-keeps a b h }
 
-declared-follows : {a b : Option Allowlist} (own o : Origin) → DeclaresMore a b → Follows (someAdmits a (sameOrigin own o) o) (someAdmits b (sameOrigin own o) o)
-declared-follows own o neither = rw (none-allows (sameOrigin own o) o) no-lists
-declared-follows own o (both {l} {m} w) = rw (some-allows l own o, some-allows m own o) (lists (λ e. w .keeps own o e))
+wide-follows : {a b : Option Allowlist} (x y : Bool) (o : Origin) → AsWide a b → Follows (someAdmits a x y o) (someAdmits b x y o)
+wide-follows x y o neither = rw (none-admits x y o) no-lists
+wide-follows x y o (both {l} {m} w) = rw (some-admits l x y o, some-admits m x y o) (lists (λ e. w .keeps x y o e))
 
-allowed-follows : {a b : Option attribute.Allowlist} (container declared o : Origin) → AllowsMore a b → Follows (attributeAdmits a (sameOrigin container o) (sameOrigin declared o) o) (attributeAdmits b (sameOrigin container o) (sameOrigin declared o) o)
-unfolding attributeAdmits
-allowed-follows container declared o widening.AllowsMore.neither = no-lists
-allowed-follows container declared o (widening.AllowsMore.both w) = lists (λ e. w .keeps container declared o e)
+declared-follows : {a b : Option Allowlist} (own o : Origin) → AsWide a b → Follows (declaredAdmits a own o) (declaredAdmits b own o)
+declared-follows {a} {b} own o wide = rw (← (declared-told a (sameOrigin own o) own o refl), ← (declared-told b (sameOrigin own o) own o refl)) (wide-follows (sameOrigin own o) false o wide)
 
 -- *Value* is monotone in what is inherited and declared
-pub value-stays : {i j : Decision} {a b : Option Allowlist} (own o : Origin) → Stays i j → DeclaresMore a b → Stays (value i a own o) (value j b own o)
+pub value-stays : {i j : Decision} {a b : Option Allowlist} (own o : Origin) → Stays i j → AsWide a b → Stays (value i a own o) (value j b own o)
 unfolding value valueBy
 value-stays own o h more = unless-stays h (list-stays enabled (declared-follows own o more))
 
 -- *Question* is, too
-pub question-stays : {i j : Decision} {a b : Option Allowlist} (default : Option Default) (own o : Origin) → Stays i j → DeclaresMore a b → Stays (question i a default own o) (question j b default own o)
+pub question-stays : {i j : Decision} {a b : Option Allowlist} (default : Option Default) (own o : Origin) → Stays i j → AsWide a b → Stays (question i a default own o) (question j b default own o)
 unfolding question questionBy
 question-stays default own o h more = unless-stays h (list-stays (byDefault default (sameOrigin own o)) (declared-follows own o more))
 
 -- *Inherited* is monotone in the container's values and in the attribute's list
-pub inherited-stays : {c d e f : Decision} {a b : Option attribute.Allowlist} (default : Option Default) (container declared arriving : Origin) → Stays c d → Stays e f → AllowsMore a b
+pub inherited-stays : {c d e f : Decision} {a b : Option Allowlist} (default : Option Default) (container declared arriving : Origin) → Stays c d → Stays e f → AsWide a b
     → Stays (inheritedFramed c e a default container declared arriving) (inheritedFramed d f b default container declared arriving)
 unfolding inheritedFramed inheritedBy
 inherited-stays default container declared arriving h g more =
-    unless-stays h (unless-stays g (list-stays (byDefault default (sameOrigin container arriving)) (allowed-follows container declared arriving more)))
+    unless-stays h (unless-stays g (list-stays (byDefault default (sameOrigin container arriving)) (wide-follows (sameOrigin container arriving) (sameOrigin declared arriving) arriving more)))
 
 -- what is the same is as wide
 pub wider-self : (p : Policy) → WiderPolicy p p
-wider-self p = record { own = refl; inherits = λ n. stays-self (p .inherited n); declares = λ n. more-self (p .declared n) }
-
-allows-self : (l : Option attribute.Allowlist) → AllowsMore l l
-allows-self (some l) = widening.AllowsMore.both (record { keeps = λ container declared o e. e })
-allows-self none = widening.AllowsMore.neither
+wider-self p = record { own = refl; inherits = λ n. stays-self (p .inherited n); declares = λ n. as-wide-self (p .declared n) }
 
 pub frame-self : (f : Frame) → WiderFrame f f
-frame-self f = record { declared = refl; allows = λ n. allows-self (f .allowed n) }
+frame-self f = record { declared = refl; allows = λ n. as-wide-self (f .allowed n) }
 
 -- the same of a document: a wider policy keeps what is Enabled
 module _ (p q : Policy) (wide : WiderPolicy p q) where
@@ -306,11 +287,11 @@ pub mask-below : (p : ℕ → Decision) → maskOf p < 2 ^ featureCount
 mask-below p = mask-lt p featureCount
 
 -- each bit stays set where each decision stays Enabled
-pub mask-stays : (p q : ℕ → Decision) → ((n : ℕ) → Stays (p n) (q n)) → (n : ℕ) → Stays (decisionAt (maskOf p) n) (decisionAt (maskOf q) n)
+pub mask-stays : (p q : ℕ → Decision) → ((n : ℕ) → n < featureCount → Stays (p n) (q n)) → (n : ℕ) → Stays (decisionAt (maskOf p) n) (decisionAt (maskOf q) n)
 mask-stays p q h n = go (ltb n featureCount) refl
   where
     go : (b : Bool) → ltb n featureCount ≡ b → Stays (decisionAt (maskOf p) n) (decisionAt (maskOf q) n)
-    go true e = let low : n < featureCount = omega (arith, ltb-true) in rw (mask-at p n low, mask-at q n low) (h n)
+    go true e = let low : n < featureCount = omega (arith, ltb-true) in rw (mask-at p n low, mask-at q n low) (h n low)
     go false e = let high : featureCount ≤ n = omega (arith, ltb-false) in rw (mask-past p n high, mask-past q n high) (stays-self disabled)
 
 -- the same decisions are the same number
@@ -364,9 +345,9 @@ forecast-past p f n h = mask-past (λ k. inheritedIn p f (f .declared) k) n h
 pub enabled-stays : (p q : Policy) → WiderPolicy p q → (n : ℕ) → Stays (decisionAt (enabledMask p) n) (decisionAt (enabledMask q) n)
 unfolding enabledMask
 enabled-stays p q wide n =
-    mask-stays (λ k. questionIn p k (p .own)) (λ k. questionIn q k (q .own)) (λ k. subst (λ (o : Origin). Stays (questionIn p k (p .own)) (questionIn q k o)) (wide .own) (question-in-stays p q wide k (p .own))) n
+    mask-stays (λ k. questionIn p k (p .own)) (λ k. questionIn q k (q .own)) (λ k low. subst (λ (o : Origin). Stays (questionIn p k (p .own)) (questionIn q k o)) (wide .own) (question-in-stays p q wide k (p .own))) n
 
 pub forecast-stays : (p q : Policy) (f g : Frame) → WiderPolicy p q → WiderFrame f g → (n : ℕ) → Stays (decisionAt (forecast p f) n) (decisionAt (forecast q g) n)
 unfolding forecast
 forecast-stays p q f g wide frames n =
-    mask-stays (λ k. inheritedIn p f (f .declared) k) (λ k. inheritedIn q g (g .declared) k) (λ k. subst (λ (o : Origin). Stays (inheritedIn p f (f .declared) k) (inheritedIn q g o k)) (frames .declared) (inherited-in-stays p q wide f g frames (f .declared) k)) n
+    mask-stays (λ k. inheritedIn p f (f .declared) k) (λ k. inheritedIn q g (g .declared) k) (λ k low. subst (λ (o : Origin). Stays (inheritedIn p f (f .declared) k) (inheritedIn q g o k)) (frames .declared) (inherited-in-stays p q wide f g frames (f .declared) k)) n

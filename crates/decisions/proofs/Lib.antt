@@ -1,3 +1,3 @@
-pub mod Falls
+pub mod Arms
 pub mod Masks
 pub mod Laws

@@ -3,4 +3,3 @@ pub mod Masks
 pub mod Policies
 pub mod Widening
 pub mod Answers
-pub mod Examples

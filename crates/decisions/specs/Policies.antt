@@ -1,33 +1,26 @@
 -- 01, "How a decision falls": decisions of lists and origins. No table is spoken of.
 use Prim.Native.Nat.{ℕ}
-use mathlib.Core.Bool.{Bool}
-use mathlib.Core.Option.{Option, some, none}
+use mathlib.Core.Option.{Option}
 use Rattle.features.specs.Features.{Default, defaultOf}
 use Rattle.origins.specs.Origins.{Origin}
 use Rattle.origins.specs.Matching.{sameOrigin}
-use Rattle.declarations.specs.Allowlists.{Allowlist}
-use Rattle.declarations.specs.Settings.{someAdmits}
-use Rattle.containers.specs.Allowlists.{Allowlist as AttributeList, listAdmits}
+use Rattle.allowlists.specs.Allowlists.{Allowlist, someAdmits}
+use Rattle.declarations.specs.Declarations.{declaredAdmits}
 use Rattle.decisions.specs.Decisions.{Decision, valueBy, inheritedBy, questionBy}
 use Rattle.decisions.specs.Masks.{maskOf}
 
--- whether the list that an attribute gives admits an origin, told whether it is the container's and whether it is the declared one; without a list there is no answer
-unfoldable pub attributeAdmits : Option AttributeList → Bool → Bool → Origin → Option Bool
-attributeAdmits (some l) container declared o = some (listAdmits l container declared o)
-attributeAdmits none container declared o = none
-
 -- *Value* of a feature in a document for an origin: what is inherited, what the header declares, the document's own origin, the origin
 unfoldable pub value : Decision → Option Allowlist → Origin → Origin → Decision
-value inherited declared own o = valueBy inherited (someAdmits declared (sameOrigin own o) o)
+value inherited declared own o = valueBy inherited (declaredAdmits declared own o)
 
 -- *Inherited*, framed: the container's values for its own and for the arriving origin, the list that the attribute has for the feature, the feature's default, and the container's, the declared and the arriving origin
-unfoldable pub inheritedFramed : Decision → Decision → Option AttributeList → Option Default → Origin → Origin → Origin → Decision
+unfoldable pub inheritedFramed : Decision → Decision → Option Allowlist → Option Default → Origin → Origin → Origin → Decision
 inheritedFramed valueOwn valueArriving allowed default container declared arriving =
-    inheritedBy valueOwn valueArriving (attributeAdmits allowed (sameOrigin container arriving) (sameOrigin declared arriving) arriving) default (sameOrigin container arriving)
+    inheritedBy valueOwn valueArriving (someAdmits allowed (sameOrigin container arriving) (sameOrigin declared arriving) arriving) default (sameOrigin container arriving)
 
 -- *Question*: what is inherited, what the header declares, the feature's default, the document's own origin, the origin
 unfoldable pub question : Decision → Option Allowlist → Option Default → Origin → Origin → Decision
-question inherited declared default own o = questionBy inherited (someAdmits declared (sameOrigin own o) o) default (sameOrigin own o)
+question inherited declared default own o = questionBy inherited (declaredAdmits declared own o) default (sameOrigin own o)
 
 -- "Policies are settled at load": what each feature inherits, what is declared for it, and the document's own origin
 pub record Policy : Type 0 where
@@ -37,7 +30,7 @@ pub record Policy : Type 0 where
 
 -- what the attributes of a frame give: each feature's list, and the declared origin
 pub record Frame : Type 0 where
-  pub allowed : ℕ → Option AttributeList
+  pub allowed : ℕ → Option Allowlist
   pub declared : Origin
 
 unfoldable pub valueIn : Policy → ℕ → Origin → Decision

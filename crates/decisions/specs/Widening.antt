@@ -1,8 +1,7 @@
 -- Demand 3: when what is Enabled stays Enabled.
 use Prim.Native.Nat.{ℕ}
 use mathlib.Core.Path.{_≡_}
-use Rattle.declarations.specs.Widening.{DeclaresMore}
-use Rattle.containers.specs.Widening.{AllowsMore}
+use Rattle.allowlists.specs.Widening.{AsWide}
 use Rattle.decisions.specs.Decisions.{Decision}
 use Rattle.decisions.specs.Decisions.Decision.{enabled}
 use Rattle.decisions.specs.Policies.{Policy, Frame}
@@ -15,9 +14,9 @@ pub record Stays (d e : Decision) : Type 0 where
 pub record WiderPolicy (p q : Policy) : Type 0 where
   pub own : p .own ≡ q .own
   pub inherits : (n : ℕ) → Stays (p .inherited n) (q .inherited n)
-  pub declares : (n : ℕ) → DeclaresMore (p .declared n) (q .declared n)
+  pub declares : (n : ℕ) → AsWide (p .declared n) (q .declared n)
 
 -- two frames with one declared origin, the second at least as wide
 pub record WiderFrame (f g : Frame) : Type 0 where
   pub declared : f .declared ≡ g .declared
-  pub allows : (n : ℕ) → AllowsMore (f .allowed n) (g .allowed n)
+  pub allows : (n : ℕ) → AsWide (f .allowed n) (g .allowed n)

@@ -1,51 +1,16 @@
 // Value, inherited and question of a feature, told what the lists answer; and the decisions of the seventeen features as one number.
 ghost use mathlib.Core.Path.{_≡_};
 ghost use Rattle.features.specs.Answers.{defaultIn};
-ghost use Rattle.origins.specs.Answers.{originIn};
-ghost use Rattle.containers.specs.Answers.{policyIn};
+ghost use Rattle.allowlists.specs.Answers.{admissionIn};
 ghost use Rattle.decisions.specs.Decisions.{decided, byDefault, valueBy, inheritedBy, questionBy};
 ghost use Rattle.decisions.specs.Masks.{maskOf, decisionAt};
-ghost use Rattle.decisions.specs.Policies.{attributeAdmits};
-ghost use Rattle.decisions.specs.Answers.{decisionIn, admissionIn, attributeIn, decisionsIn};
-use containers::ContainerPolicy;
-use declarations::Admission;
+ghost use Rattle.decisions.specs.Answers.{decisionIn, decisionsIn};
+use allowlists::Admission;
 use features::DefaultOf;
-use origins::OriginRange;
 
 pub enum Decision {
     Disabled,
     Enabled,
-}
-
-// Whether the list that a frame's attributes give a feature admits an origin.
-pub enum AttributeAnswer {
-    None,
-    Admitted,
-    NotAdmitted,
-}
-
-// What the attributes of a frame answer for an origin; the marks: it is the container's, it is the declared one.
-pub fn attribute_admits(
-    allow: &[u8],
-    policy: ContainerPolicy,
-    container_same: bool,
-    declared_same: bool,
-    t: &[u8],
-    o: OriginRange,
-) -> AttributeAnswer
-    ensures { λ r. ⌜ attributeIn r ≡ attributeAdmits (policyIn (now (allow .entry)) policy) «container_same» «declared_same» (originIn (now (t .entry)) o) ⌝ }
-{
-    match policy {
-        ContainerPolicy::None => AttributeAnswer::None,
-        ContainerPolicy::All => AttributeAnswer::Admitted,
-        ContainerPolicy::Words(w) => {
-            if containers::entry_admits(allow, w, container_same, declared_same, t, o) {
-                AttributeAnswer::Admitted
-            } else {
-                AttributeAnswer::NotAdmitted
-            }
-        }
-    }
 }
 
 // Enabled where a test passes.
@@ -77,7 +42,7 @@ pub fn value(inherited: Decision, declared: Admission) -> Decision
     match inherited {
         Decision::Disabled => Decision::Disabled,
         Decision::Enabled => match declared {
-            Admission::Undeclared => Decision::Enabled,
+            Admission::NoList => Decision::Enabled,
             Admission::Admitted => Decision::Enabled,
             Admission::NotAdmitted => Decision::Disabled,
         },
@@ -89,14 +54,14 @@ pub fn value(inherited: Decision, declared: Admission) -> Decision
 pub struct Framed {
     pub value_own: Decision,
     pub value_arriving: Decision,
-    pub allowed: AttributeAnswer,
+    pub allowed: Admission,
     pub default: DefaultOf,
     pub same: bool,
 }
 
 // What a framed document inherits for a feature.
 pub fn inherited(f: Framed) -> Decision
-    ensures { λ r. ⌜ decisionIn r ≡ inheritedBy (decisionIn (f .«value_own»)) (decisionIn (f .«value_arriving»)) (attributeIn (f .allowed)) (defaultIn (f .default)) (f .same) ⌝ }
+    ensures { λ r. ⌜ decisionIn r ≡ inheritedBy (decisionIn (f .«value_own»)) (decisionIn (f .«value_arriving»)) (admissionIn (f .allowed)) (defaultIn (f .default)) (f .same) ⌝ }
 {
     let own = f.value_own;
     let arriving = f.value_arriving;
@@ -107,9 +72,9 @@ pub fn inherited(f: Framed) -> Decision
         Decision::Enabled => match arriving {
             Decision::Disabled => Decision::Disabled,
             Decision::Enabled => match allowed {
-                AttributeAnswer::None => by_default(default, f.same),
-                AttributeAnswer::Admitted => Decision::Enabled,
-                AttributeAnswer::NotAdmitted => Decision::Disabled,
+                Admission::NoList => by_default(default, f.same),
+                Admission::Admitted => Decision::Enabled,
+                Admission::NotAdmitted => Decision::Disabled,
             },
         },
     }
@@ -127,7 +92,7 @@ pub fn question(
     match inherited {
         Decision::Disabled => Decision::Disabled,
         Decision::Enabled => match declared {
-            Admission::Undeclared => by_default(default, same),
+            Admission::NoList => by_default(default, same),
             Admission::Admitted => Decision::Enabled,
             Admission::NotAdmitted => Decision::Disabled,
         },

@@ -1,5 +1,5 @@
 -- `by_default` is right: each arm is the clause of the definition.
-use Rattle.decisions.proofs.Falls.{defaults}
+use Rattle.decisions.proofs.Arms.{defaults}
 use borrow.Author.Needs.{needs}
 use Rattle.decisions.proofs.by_default.Statement.{statement}
 use Rattle.decisions.proofs.by_default.Tie as tie

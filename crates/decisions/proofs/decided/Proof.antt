@@ -1,5 +1,5 @@
 -- `decided` is right: a branch for each of the two answers.
-use Rattle.decisions.proofs.Falls.{decided-yes, decided-no}
+use Rattle.decisions.proofs.Arms.{decided-yes, decided-no}
 use borrow.Author.Needs.{needs}
 use Rattle.decisions.proofs.decided.Statement.{statement}
 use Rattle.decisions.proofs.decided.Tie as tie

@@ -1,5 +1,5 @@
 -- `inherited` is right: the two values are asked in turn, then the list, then the default list, as the definition asks.
-use Rattle.decisions.proofs.Falls.{inheriteds}
+use Rattle.decisions.proofs.Arms.{inheriteds}
 use borrow.Author.Needs.{needs}
 use Rattle.decisions.proofs.inherited.Statement.{statement}
 use Rattle.decisions.proofs.inherited.Tie as tie

@@ -1,5 +1,5 @@
 -- `question` is right: each arm is the clause of the definition, and the undeclared one goes by the default list.
-use Rattle.decisions.proofs.Falls.{questions}
+use Rattle.decisions.proofs.Arms.{questions}
 use borrow.Author.Needs.{needs}
 use Rattle.decisions.proofs.question.Statement.{statement}
 use Rattle.decisions.proofs.question.Tie as tie

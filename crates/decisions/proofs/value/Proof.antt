@@ -1,5 +1,5 @@
 -- `value` is right: each arm is the clause of the definition.
-use Rattle.decisions.proofs.Falls.{values}
+use Rattle.decisions.proofs.Arms.{values}
 use borrow.Author.Needs.{needs}
 use Rattle.decisions.proofs.value.Statement.{statement}
 use Rattle.decisions.proofs.value.Tie as tie
