@@ -64,6 +64,14 @@ pub no-star : (ms : List Meaning) → hasStar ms ≡ false → allowlistOf ms �
 unfolding allowlistOf allowlist pick
 no-star ms e = rw e
 
+pub list-star : (x y : Bool) (es : List SourceExpression) → allowlist true x y es ≡ all
+unfolding allowlist pick
+list-star x y es = refl
+
+pub list-parts : (x y : Bool) (es : List SourceExpression) → allowlist false x y es ≡ listed x y es
+unfolding allowlist pick
+list-parts x y es = refl
+
 pub listed-sources : (ms : List Meaning) (x y : Bool) (es : List SourceExpression) → allowlistOf ms ≡ listed x y es → sourcesOf ms ≡ es
 unfolding allowlistOf allowlist
 listed-sources ms x y es e = go (hasStar ms) e
@@ -234,12 +242,12 @@ pub src-alone : (a b : Bool) (o : Origin) → listAdmits (allowlistOf (src ∷ [
 src-alone a b o = alone src a b o ∙ unfold meaningAdmits in refl
 
 -- only `*` admits a fresh origin
-sources-fresh : (es : List SourceExpression) → anyAdmits es fresh ≡ false
+pub sources-fresh : (es : List SourceExpression) → anyAdmits es fresh ≡ false
 unfolding anyAdmits
 sources-fresh [] = refl
 sources-fresh (e ∷ es) = rw (admits-fresh e, sources-fresh es)
 
-sources-opaque : (es : List SourceExpression) (n : ℕ) → anyAdmits es (opaque n) ≡ false
+pub sources-opaque : (es : List SourceExpression) (n : ℕ) → anyAdmits es (opaque n) ≡ false
 unfolding anyAdmits
 sources-opaque [] n = refl
 sources-opaque (e ∷ es) n = rw (admits-opaque e n, sources-opaque es n)

@@ -32,7 +32,7 @@ use Rattle.origins.specs.declared.PortPart.the-variants.{Default, Any, N
 pub use Rattle.origins.proofs.HostBytes.{host-some, host-most}
 pub use Rattle.origins.proofs.OriginHosts.{host-origin, origin-host-some, origin-host-most, origin-host-longest}
 pub use Rattle.origins.proofs.ExpressionTexts.{expression-range, expression-good, named-short, expression-long}
-pub use Rattle.origins.proofs.Parts.{scheme-is, scheme-self, admits-parts, admits-no-host, admits-any-host, admits-exact, admits-below, admits-default, admits-any-port, admits-number, text-no-host, text-any-host, text-exact, text-below, text-default, text-any-port, text-number, normal-parts, form-parts, same-parts, opaque-tuple, label-no-dot, pair-host, letter-below, pair-below, before-dot}
+pub use Rattle.origins.proofs.Parts.{scheme-is, scheme-self, admits-tuple, admits-parts, admits-no-host, admits-any-host, admits-exact, admits-below, admits-default, admits-any-port, admits-number, text-no-host, text-any-host, text-exact, text-below, text-default, text-any-port, text-number, normal-parts, form-parts, same-parts, opaque-tuple, label-no-dot, pair-host, letter-below, pair-below, before-dot}
 pub use Rattle.origins.proofs.PlainTexts.{expression-plain}
 use Rattle.origins.proofs.Numbers.{number-most}
 use Rattle.origins.proofs.Decimals.{port-canonical, port-short}

@@ -37,6 +37,11 @@ pub scheme-self : (k : Scheme) → sameScheme k k ≡ true
 scheme-self Http = refl
 scheme-self Https = refl
 
+-- of a tuple origin
+pub admits-tuple : (e : SourceExpression) (o : TupleOrigin) → admits e (tuple o) ≡ admitsTuple e o
+unfolding admits
+admits-tuple e o = refl
+
 -- what an expression admits: its scheme, and by its host part
 pub admits-parts : (e : SourceExpression) (o : TupleOrigin) → admits e (tuple o) ≡ schemeAdmits (e .scheme) (o .scheme) && hostAdmits (e .host) (e .port) o
 unfolding admits admitsTuple

@@ -1,0 +1,16 @@
+-- `word_at` is right: two bytes, the lower first, are the number.
+use Rattle.settled.proofs.Reading.{word-is}
+use borrow.Author.Needs.{needs}
+use Rattle.settled.proofs.word_at.Statement.{statement}
+use Rattle.settled.proofs.word_at.Tie as tie
+
+pub word-at-spec : {M : Type 1} → statement M
+word-at-spec =
+    tie.close
+    (tie.spec
+    (λ c κs. search needs)
+    (λ c. search needs)
+    (λ c κs. search needs)
+    (λ c κs. search needs)
+    (λ c. search needs)
+    (λ c. (search word-is, search needs)))
