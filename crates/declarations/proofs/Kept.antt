@@ -13,7 +13,7 @@ use borrow.Author.Tests.{not-true, not-false}
 use Rattle.ascii.specs.Bytes.{pick}
 use Rattle.origins.specs.Origins.{Origin}
 use Rattle.features.specs.Features.{nameOf, featureCount}
-use Rattle.items.specs.Found.{itemAs}
+use Rattle.items.specs.Found.{itemIn}
 use Rattle.items.specs.declared.ItemRange.{ItemRange}
 use Rattle.dictionaries.specs.Dictionaries.{dictionary, members}
 use Rattle.dictionaries.specs.Lookup.{lastFound, itemsFrom, isSome}
@@ -38,7 +38,7 @@ module _ (s : List ℕ) (c : Cursor) (o : Origin) where
   unfolding itemsAt sourcesOf anyAdmits
   none-admits k = rw k
 
-  pub lone-admits : (p : ItemRange) (b : Bool) → b ≡ anyAdmits (withSource (meaningOf (itemAs s p)) []) o → c ≡ cursor.Item p → b ≡ anyAdmits (sourcesOf (itemsAt s c)) o
+  pub lone-admits : (p : ItemRange) (b : Bool) → b ≡ anyAdmits (withSource (meaningOf (itemIn s p)) []) o → c ≡ cursor.Item p → b ≡ anyAdmits (sourcesOf (itemsAt s c)) o
   unfolding itemsAt sourcesOf
   lone-admits p b h k = rw k h
 
@@ -85,7 +85,7 @@ module _ (s : List ℕ) (n : ℕ) (key : List ℕ) (named : key ≡ nameOf n) (r
   unfolding memberSetting
   absent h k = rw (at-name, k) h
 
-  pub lone : (m : MemberItem) → d ≡ loneSetting (meaningOf (itemAs s (m .item))) (declaredBy s (cursor.Item (m .item))) → r ≡ found.Item m → d ≡ settingOf s n
+  pub lone : (m : MemberItem) → d ≡ loneSetting (meaningOf (itemIn s (m .item))) (declaredBy s (cursor.Item (m .item))) → r ≡ found.Item m → d ≡ settingOf s n
   unfolding memberSetting
   lone m h k = rw (at-name, k) h
 

@@ -17,7 +17,7 @@ use Rattle.origins.specs.Expressions.{SourceExpression}
 use Rattle.origins.specs.Matching.{admits, sameOrigin}
 use Rattle.features.specs.Features.{nameOf, featureCount}
 use Rattle.items.specs.Items.{Item}
-use Rattle.items.specs.Found.{itemAs}
+use Rattle.items.specs.Found.{itemIn}
 use Rattle.dictionaries.specs.Dictionaries.{Value, Plain, members}
 use Rattle.dictionaries.specs.Dictionaries.Value.{one, many}
 use Rattle.dictionaries.specs.Lookup.{itemsFrom, cursorAt, lastFound, lastValueIn, isSome}
@@ -54,7 +54,7 @@ member-says s key found.NotADictionary e = rw (last-malformed s key (lastFound s
 member-says s key found.Absent e = rw (last-absent s key (lastFound s key) refl e) (unfold settingAs pick in refl)
 member-says s key (found.Item m) e =
     rw (last-item s key (lastFound s key) refl m e)
-    (lone-says s (itemAs s (m .item)) (meaningOf (itemAs s (m .item))) (declaredBy s (cursor.Item (m .item))) (unfold settingAs itemsAt allowlistOf pick in refl))
+    (lone-says s (itemIn s (m .item)) (meaningOf (itemIn s (m .item))) (declaredBy s (cursor.Item (m .item))) (unfold settingAs itemsAt allowlistOf pick in refl))
 member-says s key (found.List m) e = rw (last-list s key (lastFound s key) refl m e) (unfold settingAs itemsAt allowlistOf pick in refl)
 
 pub settled : (s : List ℕ) (n : ℕ) → settingAs s (settingOf s n) ≡ declares s n

@@ -19,8 +19,8 @@ use Rattle.origins.specs.declared.Source.the-variants as answer
 use Rattle.origins.proofs.Laws.{expression-range}
 use Rattle.items.specs.Items.{Item}
 use Rattle.items.specs.Items.Item.{token, string, other}
-use Rattle.items.specs.Found.{itemAs}
-use Rattle.items.proofs.Laws.{as-token, as-string, as-other}
+use Rattle.items.specs.Found.{itemIn}
+use Rattle.items.proofs.Laws.{token-in, string-in, other-in}
 use Rattle.items.specs.declared.ItemKind.{ItemKind}
 use Rattle.items.specs.declared.ItemKind.the-variants as kind
 use Rattle.items.specs.declared.ItemRange.{ItemRange}
@@ -61,17 +61,17 @@ string-nothing none r h k = refl
 
 -- an item by its kind
 module _ (s : List ℕ) (p : ItemRange) (t : List ℕ) (m : t ≡ partOf s (p .from) (p .to)) (r : ItemMeaning) where
-  pub item-token : r ≡ meaningAs (tokenMeaning t) → p .kind ≡ kind.Token → r ≡ meaningAs (meaningOf (itemAs s p))
+  pub item-token : r ≡ meaningAs (tokenMeaning t) → p .kind ≡ kind.Token → r ≡ meaningAs (meaningOf (itemIn s p))
   unfolding meaningOf
-  item-token h k = rw (as-token s p k, ← m) h
+  item-token h k = rw (token-in s p k, ← m) h
 
-  pub item-string : r ≡ meaningAs (sourceMeaning (expressionOf t)) → p .kind ≡ kind.String → r ≡ meaningAs (meaningOf (itemAs s p))
+  pub item-string : r ≡ meaningAs (sourceMeaning (expressionOf t)) → p .kind ≡ kind.String → r ≡ meaningAs (meaningOf (itemIn s p))
   unfolding meaningOf
-  item-string h k = rw (as-string s p k, ← m) h
+  item-string h k = rw (string-in s p k, ← m) h
 
-pub item-other : (s : List ℕ) (p : ItemRange) → p .kind ≡ kind.Other → meaning.Nothing ≡ meaningAs (meaningOf (itemAs s p))
+pub item-other : (s : List ℕ) (p : ItemRange) → p .kind ≡ kind.Other → meaning.Nothing ≡ meaningAs (meaningOf (itemIn s p))
 unfolding meaningOf
-item-other s p k = rw (as-other s p k)
+item-other s p k = rw (other-in s p k)
 
 -- the meaning that an answer tells
 module _ (x : Meaning) (r : ItemMeaning) (h : r ≡ meaningAs x) where
@@ -126,54 +126,54 @@ unfolding sourceMeaning
 string-is (some z) y e = let q : z ≡ y = cc in ap some q
 string-is none y e = clash cc
 
-kind-source : (s : List ℕ) (p : ItemRange) (y : SourceExpression) (k : ItemKind) → p .kind ≡ k → meaningOf (itemAs s p) ≡ source y → expressionOf (partOf s (p .from) (p .to)) ≡ some y
+kind-source : (s : List ℕ) (p : ItemRange) (y : SourceExpression) (k : ItemKind) → p .kind ≡ k → meaningOf (itemIn s p) ≡ source y → expressionOf (partOf s (p .from) (p .to)) ≡ some y
 unfolding meaningOf
-kind-source s p y kind.Token k e = absurd (token-no-source (partOf s (p .from) (p .to)) y (rw (as-token s p k) at e))
-kind-source s p y kind.String k e = string-is (expressionOf (partOf s (p .from) (p .to))) y (rw (as-string s p k) at e)
+kind-source s p y kind.Token k e = absurd (token-no-source (partOf s (p .from) (p .to)) y (rw (token-in s p k) at e))
+kind-source s p y kind.String k e = string-is (expressionOf (partOf s (p .from) (p .to))) y (rw (string-in s p k) at e)
 kind-source s p y kind.Other k e =
-    let f : nothing ≡ source y = rw (as-other s p k) at e in
+    let f : nothing ≡ source y = rw (other-in s p k) at e in
     clash cc
 
 -- whether an item admits an origin, by its meaning
-module _ (s : List ℕ) (p : ItemRange) (o : Origin) (r : ItemMeaning) (h : r ≡ meaningAs (meaningOf (itemAs s p))) where
-  pub admit-all : r ≡ meaning.All → false ≡ anyAdmits (withSource (meaningOf (itemAs s p)) []) o
+module _ (s : List ℕ) (p : ItemRange) (o : Origin) (r : ItemMeaning) (h : r ≡ meaningAs (meaningOf (itemIn s p))) where
+  pub admit-all : r ≡ meaning.All → false ≡ anyAdmits (withSource (meaningOf (itemIn s p)) []) o
   unfolding anyAdmits withSource
-  admit-all k = rw (told-star (meaningOf (itemAs s p)) r h k)
+  admit-all k = rw (told-star (meaningOf (itemIn s p)) r h k)
 
-  pub admit-own : r ≡ meaning.Own → false ≡ anyAdmits (withSource (meaningOf (itemAs s p)) []) o
+  pub admit-own : r ≡ meaning.Own → false ≡ anyAdmits (withSource (meaningOf (itemIn s p)) []) o
   unfolding anyAdmits withSource
-  admit-own k = rw (told-self (meaningOf (itemAs s p)) r h k)
+  admit-own k = rw (told-self (meaningOf (itemIn s p)) r h k)
 
-  pub admit-nothing : r ≡ meaning.Nothing → false ≡ anyAdmits (withSource (meaningOf (itemAs s p)) []) o
+  pub admit-nothing : r ≡ meaning.Nothing → false ≡ anyAdmits (withSource (meaningOf (itemIn s p)) []) o
   unfolding anyAdmits withSource
-  admit-nothing k = rw (told-nothing (meaningOf (itemAs s p)) r h k)
+  admit-nothing k = rw (told-nothing (meaningOf (itemIn s p)) r h k)
 
-  pub admit-source : (e : ExpressionRange) (x : List ℕ) (b : Bool) → b ≡ admits (expressionIn x e) o → x ≡ partOf s (p .from) (p .to) → r ≡ meaning.Source e → b ≡ anyAdmits (withSource (meaningOf (itemAs s p)) []) o
+  pub admit-source : (e : ExpressionRange) (x : List ℕ) (b : Bool) → b ≡ admits (expressionIn x e) o → x ≡ partOf s (p .from) (p .to) → r ≡ meaning.Source e → b ≡ anyAdmits (withSource (meaningOf (itemIn s p)) []) o
   unfolding anyAdmits withSource
   admit-source e x b g m k =
-      let t = told-source (meaningOf (itemAs s p)) r h e k in
+      let t = told-source (meaningOf (itemIn s p)) r h e k in
       let y = t .0 in
       let w : expressionOf x ≡ some y = rw m (kind-source s p y (p .kind) refl (t .1)) in
       let v : expressionIn x e ≡ y = ap (expressionIn x) (sym (t .2)) ∙ expression-range x y w in
       rw (t .1, or-false (admits y o)) (rw v at g)
 
 -- a lone item's setting, by its meaning
-module _ (s : List ℕ) (p : ItemRange) (r : ItemMeaning) (h : r ≡ meaningAs (meaningOf (itemAs s p))) where
-  pub lone-all : r ≡ meaning.All → record { declared = true; all = true; own = false; items = cursor.Item p } ≡ loneSetting (meaningOf (itemAs s p)) (declaredBy s (cursor.Item p))
+module _ (s : List ℕ) (p : ItemRange) (r : ItemMeaning) (h : r ≡ meaningAs (meaningOf (itemIn s p))) where
+  pub lone-all : r ≡ meaning.All → record { declared = true; all = true; own = false; items = cursor.Item p } ≡ loneSetting (meaningOf (itemIn s p)) (declaredBy s (cursor.Item p))
   unfolding loneSetting itemsAt hasStar hasSelf
-  lone-all k = rw (told-star (meaningOf (itemAs s p)) r h k)
+  lone-all k = rw (told-star (meaningOf (itemIn s p)) r h k)
 
-  pub lone-own : r ≡ meaning.Own → record { declared = true; all = false; own = true; items = cursor.Item p } ≡ loneSetting (meaningOf (itemAs s p)) (declaredBy s (cursor.Item p))
+  pub lone-own : r ≡ meaning.Own → record { declared = true; all = false; own = true; items = cursor.Item p } ≡ loneSetting (meaningOf (itemIn s p)) (declaredBy s (cursor.Item p))
   unfolding loneSetting itemsAt hasStar hasSelf
-  lone-own k = rw (told-self (meaningOf (itemAs s p)) r h k)
+  lone-own k = rw (told-self (meaningOf (itemIn s p)) r h k)
 
-  pub lone-source : (e : ExpressionRange) → r ≡ meaning.Source e → record { declared = true; all = false; own = false; items = cursor.Item p } ≡ loneSetting (meaningOf (itemAs s p)) (declaredBy s (cursor.Item p))
+  pub lone-source : (e : ExpressionRange) → r ≡ meaning.Source e → record { declared = true; all = false; own = false; items = cursor.Item p } ≡ loneSetting (meaningOf (itemIn s p)) (declaredBy s (cursor.Item p))
   unfolding loneSetting itemsAt hasStar hasSelf
-  lone-source e k = rw (told-source (meaningOf (itemAs s p)) r h e k .1)
+  lone-source e k = rw (told-source (meaningOf (itemIn s p)) r h e k .1)
 
-  pub lone-nothing : r ≡ meaning.Nothing → undeclared ≡ loneSetting (meaningOf (itemAs s p)) (declaredBy s (cursor.Item p))
+  pub lone-nothing : r ≡ meaning.Nothing → undeclared ≡ loneSetting (meaningOf (itemIn s p)) (declaredBy s (cursor.Item p))
   unfolding loneSetting
-  lone-nothing k = rw (told-nothing (meaningOf (itemAs s p)) r h k)
+  lone-nothing k = rw (told-nothing (meaningOf (itemIn s p)) r h k)
 
 -- marks, by a meaning
 module _ (m : Marks) (x : Meaning) (r : ItemMeaning) (h : r ≡ meaningAs x) where
@@ -190,23 +190,23 @@ module _ (m : Marks) (x : Meaning) (r : ItemMeaning) (h : r ≡ meaningAs x) whe
   mark-nothing k = rw (told-nothing x r h k) (record { all = sym (or-false (m .all)); own = sym (or-false (m .own)) })
 
 -- what an item adds to the expressions of a list, by the meaning that is answered
-module _ (s : List ℕ) (p : ItemRange) (es : List SourceExpression) (r : ItemMeaning) (h : r ≡ meaningAs (meaningOf (itemAs s p))) where
-  pub adds-all : r ≡ meaning.All → withSource (meaningOf (itemAs s p)) es ≡ es
+module _ (s : List ℕ) (p : ItemRange) (es : List SourceExpression) (r : ItemMeaning) (h : r ≡ meaningAs (meaningOf (itemIn s p))) where
+  pub adds-all : r ≡ meaning.All → withSource (meaningOf (itemIn s p)) es ≡ es
   unfolding withSource
-  adds-all k = rw (told-star (meaningOf (itemAs s p)) r h k)
+  adds-all k = rw (told-star (meaningOf (itemIn s p)) r h k)
 
-  pub adds-own : r ≡ meaning.Own → withSource (meaningOf (itemAs s p)) es ≡ es
+  pub adds-own : r ≡ meaning.Own → withSource (meaningOf (itemIn s p)) es ≡ es
   unfolding withSource
-  adds-own k = rw (told-self (meaningOf (itemAs s p)) r h k)
+  adds-own k = rw (told-self (meaningOf (itemIn s p)) r h k)
 
-  pub adds-nothing : r ≡ meaning.Nothing → withSource (meaningOf (itemAs s p)) es ≡ es
+  pub adds-nothing : r ≡ meaning.Nothing → withSource (meaningOf (itemIn s p)) es ≡ es
   unfolding withSource
-  adds-nothing k = rw (told-nothing (meaningOf (itemAs s p)) r h k)
+  adds-nothing k = rw (told-nothing (meaningOf (itemIn s p)) r h k)
 
-  pub adds-source : (e : ExpressionRange) (x : List ℕ) → x ≡ partOf s (p .from) (p .to) → r ≡ meaning.Source e → withSource (meaningOf (itemAs s p)) es ≡ expressionIn x e ∷ es
+  pub adds-source : (e : ExpressionRange) (x : List ℕ) → x ≡ partOf s (p .from) (p .to) → r ≡ meaning.Source e → withSource (meaningOf (itemIn s p)) es ≡ expressionIn x e ∷ es
   unfolding withSource
   adds-source e x m k =
-      let t = told-source (meaningOf (itemAs s p)) r h e k in
+      let t = told-source (meaningOf (itemIn s p)) r h e k in
       let y = t .0 in
       let w : expressionOf x ≡ some y = rw m (kind-source s p y (p .kind) refl (t .1)) in
       let v : expressionIn x e ≡ y = ap (expressionIn x) (sym (t .2)) ∙ expression-range x y w in

@@ -9,7 +9,7 @@ use Rattle.origins.specs.Origins.{Origin}
 use Rattle.origins.specs.Expressions.{SourceExpression}
 use Rattle.origins.specs.Matching.{admits}
 use Rattle.items.specs.Items.{Item}
-use Rattle.items.specs.Found.{itemAs}
+use Rattle.items.specs.Found.{itemIn}
 use Rattle.items.specs.declared.ItemFound.{ItemFound}
 use Rattle.items.specs.declared.ItemRange.{ItemRange}
 use Rattle.dictionaries.specs.Lookup.{cursorAt, itemsFrom, IsPointed}
@@ -61,12 +61,12 @@ or-right false b c = refl
 
 -- a walk that looks for an expression that admits an origin
 module _ (s : List ℕ) (c : ℕ) (r : ListItem) (is : r ≡ cursorAt s c) (o : Origin) (R : Bool) (so-far : anyAdmits (sourcesOf (itemsFrom s c)) o ≡ R) where
-  module _ (f : ItemFound) (b : Bool) (h : b ≡ anyAdmits (withSource (meaningOf (itemAs s (f .range))) []) o) where
+  module _ (f : ItemFound) (b : Bool) (h : b ≡ anyAdmits (withSource (meaningOf (itemIn s (f .range))) []) o) where
     turn : r ≡ list.Item f → b || anyAdmits (sourcesOf (itemsFrom s (f .next))) o ≡ R
     unfolding sourcesOf
     turn e =
         rw h
-        (sym (source-more (meaningOf (itemAs s (f .range))) (sourcesOf (itemsFrom s (f .next))) o)
+        (sym (source-more (meaningOf (itemIn s (f .range))) (sourcesOf (itemsFrom s (f .next))) o)
         ∙ (rw (items-item s c r is f e) at so-far))
 
     pub look-hit : b ≡ true → r ≡ list.Item f → true ≡ R
@@ -82,20 +82,20 @@ module _ (s : List ℕ) (c : ℕ) (r : ListItem) (is : r ≡ cursorAt s c) (o : 
 -- a walk that marks `*` and `self`
 module _ (s : List ℕ) (c : ℕ) (r : ListItem) (is : r ≡ cursorAt s c) (m : Marks) where
   module _ (R : Bool) (so-far : m .all || hasStar (itemsFrom s c) ≡ R) where
-    pub all-on : (f : ItemFound) (n : Marks) → r ≡ list.Item f → IsMarked m (meaningOf (itemAs s (f .range))) n → n .all || hasStar (itemsFrom s (f .next)) ≡ R
+    pub all-on : (f : ItemFound) (n : Marks) → r ≡ list.Item f → IsMarked m (meaningOf (itemIn s (f .range))) n → n .all || hasStar (itemsFrom s (f .next)) ≡ R
     unfolding hasStar
     all-on f n e h =
-        rw (h .all, or-right (m .all) (isStar (meaningOf (itemAs s (f .range)))) (hasStar (itemsFrom s (f .next)))) (rw (items-item s c r is f e) at so-far)
+        rw (h .all, or-right (m .all) (isStar (meaningOf (itemIn s (f .range)))) (hasStar (itemsFrom s (f .next)))) (rw (items-item s c r is f e) at so-far)
 
     pub all-end : r ≡ list.End → m .all ≡ R
     unfolding hasStar
     all-end e = sym (or-false (m .all)) ∙ (rw (items-end s c r is e) at so-far)
 
   module _ (R : Bool) (so-far : m .own || hasSelf (itemsFrom s c) ≡ R) where
-    pub own-on : (f : ItemFound) (n : Marks) → r ≡ list.Item f → IsMarked m (meaningOf (itemAs s (f .range))) n → n .own || hasSelf (itemsFrom s (f .next)) ≡ R
+    pub own-on : (f : ItemFound) (n : Marks) → r ≡ list.Item f → IsMarked m (meaningOf (itemIn s (f .range))) n → n .own || hasSelf (itemsFrom s (f .next)) ≡ R
     unfolding hasSelf
     own-on f n e h =
-        rw (h .own, or-right (m .own) (isSelf (meaningOf (itemAs s (f .range)))) (hasSelf (itemsFrom s (f .next)))) (rw (items-item s c r is f e) at so-far)
+        rw (h .own, or-right (m .own) (isSelf (meaningOf (itemIn s (f .range)))) (hasSelf (itemsFrom s (f .next)))) (rw (items-item s c r is f e) at so-far)
 
     pub own-end : r ≡ list.End → m .own ≡ R
     unfolding hasSelf

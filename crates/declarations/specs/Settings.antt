@@ -9,7 +9,7 @@ use Rattle.features.specs.Features.{nameOf, featureCount}
 use Rattle.origins.specs.Origins.{Origin}
 use Rattle.origins.specs.Answers.{expressionRange}
 use Rattle.items.specs.Items.{Item}
-use Rattle.items.specs.Found.{itemAs}
+use Rattle.items.specs.Found.{itemIn}
 use Rattle.dictionaries.specs.Lookup.{lastFound, itemsFrom, cursorAt}
 use Rattle.dictionaries.specs.declared.ListItem.{ListItem}
 use Rattle.dictionaries.specs.declared.ListItem.the-variants as list
@@ -40,7 +40,7 @@ meaningAs nothing = meaning.Nothing
 -- the items from a cursor on
 unfoldable pub itemsAt : List ℕ → Cursor → List Item
 itemsAt s cursor.End = []
-itemsAt s (cursor.Item r) = itemAs s r ∷ []
+itemsAt s (cursor.Item r) = itemIn s r ∷ []
 itemsAt s (cursor.List c) = itemsFrom s c
 
 -- the item at a cursor, and the next cursor
@@ -75,7 +75,7 @@ loneSetting nothing d = undeclared
 unfoldable pub memberSetting : List ℕ → MemberFound → Setting
 memberSetting s found.NotADictionary = undeclared
 memberSetting s found.Absent = undeclared
-memberSetting s (found.Item m) = loneSetting (meaningOf (itemAs s (m .item))) (declaredBy s (cursor.Item (m .item)))
+memberSetting s (found.Item m) = loneSetting (meaningOf (itemIn s (m .item))) (declaredBy s (cursor.Item (m .item)))
 memberSetting s (found.List m) = declaredBy s (cursor.List (m .first))
 
 -- what is kept of a header for a feature
@@ -100,7 +100,7 @@ admissionAs none = admission.Undeclared
 
 -- what an item and the cursor past it stand for
 unfoldable pub itemsIn : List ℕ → CursorItem → List Item
-itemsIn s (item.Item f) = itemAs s (f .item) ∷ itemsAt s (f .next)
+itemsIn s (item.Item f) = itemIn s (f .item) ∷ itemsAt s (f .next)
 itemsIn s item.End = []
 
 -- a bound on how many items can follow a cursor, and one that is answered

@@ -5,7 +5,7 @@ ghost use mathlib.Core.Option.{some};
 ghost use Prim.Native.Nat.{_<_};
 ghost use Rattle.origins.specs.Answers.{originIn};
 ghost use Rattle.origins.specs.Expressions.{expressionOf};
-ghost use Rattle.items.specs.Found.{itemAs};
+ghost use Rattle.items.specs.Found.{itemIn};
 ghost use Rattle.dictionaries.specs.Lookup.{itemsFrom};
 ghost use Rattle.declarations.specs.Allowlists.{tokenMeaning, sourceMeaning, meaningOf, hasStar, hasSelf, withSource, sourcesOf, anyAdmits};
 ghost use Rattle.declarations.specs.Settings.{meaningAs, itemsAt, IsItemAt, admissionAs, undeclared, declaredBy, loneSetting, settingOf, settingAs, someAdmits, IsSettled, IsMarked};
@@ -82,7 +82,7 @@ fn string_meaning(t: &[u8]) -> ItemMeaning
 
 // What an item of a header says.
 pub fn meaning(s: &[u8], item: ItemRange) -> ItemMeaning
-    ensures { λ r. ⌜ r ≡ meaningAs (meaningOf (itemAs (now (s .entry)) item)) ⌝ }
+    ensures { λ r. ⌜ r ≡ meaningAs (meaningOf (itemIn (now (s .entry)) item)) ⌝ }
 {
     let kind = item.kind;
     let t = ascii::part(s, item.from, item.to);
@@ -124,7 +124,7 @@ struct Marks {
 
 // The marks with one item more.
 fn with_item(m: Marks, s: &[u8], item: ItemRange) -> Marks
-    ensures { λ r. ⌜ IsMarked m (meaningOf (itemAs (now (s .entry)) item)) r ⌝ }
+    ensures { λ r. ⌜ IsMarked m (meaningOf (itemIn (now (s .entry)) item)) r ⌝ }
 {
     match meaning(s, item) {
         ItemMeaning::All => Marks {
@@ -174,7 +174,7 @@ fn no_setting() -> Setting
 
 // The setting of a member that is an item.
 fn lone_setting(s: &[u8], item: ItemRange) -> Setting
-    ensures { λ r. ⌜ r ≡ loneSetting (meaningOf (itemAs (now (s .entry)) item)) (declaredBy (now (s .entry)) (Cursor.Item item)) ⌝ }
+    ensures { λ r. ⌜ r ≡ loneSetting (meaningOf (itemIn (now (s .entry)) item)) (declaredBy (now (s .entry)) (Cursor.Item item)) ⌝ }
 {
     match meaning(s, item) {
         ItemMeaning::All => Setting {
@@ -255,7 +255,7 @@ pub fn settle(s: &[u8]) -> Settings
 
 // Whether an item is an expression that admits an origin.
 fn item_admits(s: &[u8], item: ItemRange, t: &[u8], o: OriginRange) -> bool
-    ensures { λ r. ⌜ r ≡ anyAdmits (withSource (meaningOf (itemAs (now (s .entry)) item)) []) (originIn (now (t .entry)) o) ⌝ }
+    ensures { λ r. ⌜ r ≡ anyAdmits (withSource (meaningOf (itemIn (now (s .entry)) item)) []) (originIn (now (t .entry)) o) ⌝ }
 {
     match meaning(s, item) {
         ItemMeaning::All => false,

@@ -8,7 +8,7 @@ use native.Mathlib.Omega.{arith}
 use lib.ListN.{length, length-append, length-map}
 use lib.Dec.{eqb}
 use borrow.Author.Tests.{eqb-true}
-use Rattle.ascii.specs.Bytes.{pick, isKeyStart, isKeyByte, isTokenStart, isTokenByte, isText}
+use Rattle.ascii.specs.Bytes.{pick, isKeyStart, isKeyByte, isTokenStart, isTokenByte, isText, isSpace, isBlank}
 use Rattle.ascii.specs.Literals.{text}
 use Rattle.ascii.specs.Texts.{every}
 use Rattle.ascii.specs.Reading.{headOf, headIs, isEmpty, next, skip, past, after, mapped, going, adding, onStep, turns}
@@ -16,9 +16,9 @@ use Rattle.ascii.specs.Reading.Parsed.{parsed}
 use Rattle.ascii.specs.Reading.Step.{more, done}
 use Rattle.ascii.proofs.Bytes.{and-left, and-right}
 use Rattle.ascii.proofs.Texts.{every-run, every-past}
-use Rattle.items.specs.Items.{Item, isSpace, isEscaped, keyOf, tokenOf, stringTurn, stringOf, bareOf, paramTurn, paramsOf, itemOf}
+use Rattle.items.specs.Items.{Item, isEscaped, keyOf, tokenOf, stringTurn, stringOf, bareOf, paramTurn, paramsOf, itemOf}
 use Rattle.items.specs.Items.Item.{token, string, other}
-use Rattle.dictionaries.specs.Dictionaries.{Value, Placed, Member, Plain, isBlank, innerTurn, innerOf, closedOf, listOf, loneOf, valueOf, assignedOf, memberOf, partedOf, dictTurn, readAll, dataOf, dictionary, plains, plainly, members}
+use Rattle.dictionaries.specs.Dictionaries.{Value, Placed, Member, Plain, innerTurn, innerOf, closedOf, listOf, loneOf, valueOf, assignedOf, memberOf, partedOf, dictTurn, readAll, dataOf, dictionary, plains, plainly, members}
 use Rattle.dictionaries.specs.Dictionaries.Value.{one, many}
 use Rattle.dictionaries.specs.Lookup.{isSome}
 use Rattle.dictionaries.specs.Written.{eachAfter, joinedBy, itemText, valueText, memberText, written, GoodKey, isUnescaped, GoodItem, All, GoodValue, GoodMember, AllGood}
@@ -152,9 +152,9 @@ inner-back (x ∷ xs) ys (and g a) =
     simp (append-assoc, inner-turn x l g (items-part xs ys), list-turns xs ys (length (itemText x ++ l)) a (simp length-append (omega (arith, length-map xs itemText, each-long 32 [] (map itemText xs)))))
 
 -- where a value stands that is written before a text
-unfoldable pub placedIn : Value → List ℕ → Placed
-placedIn (one x) ys = record { value = one x; start = length (itemText x ++ ys); params = length ys; end = length ys }
-placedIn (many xs) ys =
+unfoldable pub placedBefore : Value → List ℕ → Placed
+placedBefore (one x) ys = record { value = one x; start = length (itemText x ++ ys); params = length ys; end = length ys }
+placedBefore (many xs) ys =
     record {
       value = many xs;
       start = length (joinedBy (text " ") (map itemText xs) ++ (41 ∷ ys));
@@ -163,18 +163,18 @@ placedIn (many xs) ys =
     }
 
 -- a value is read back
-value-back : (v : Value) (ys : List ℕ) → GoodValue v → Ends ys → valueOf (valueText v ++ ys) ≡ parsed (placedIn v ys) ys
-unfolding valueText placedIn valueOf loneOf listOf closedOf pick next after headOf
+value-back : (v : Value) (ys : List ℕ) → GoodValue v → Ends ys → valueOf (valueText v ++ ys) ≡ parsed (placedBefore v ys) ys
+unfolding valueText placedBefore valueOf loneOf listOf closedOf pick next after headOf
 value-back (one x) ys g e = simp (item-head x ys g 40 refl refl, bare-back x ys g e, params-none ys (e .params))
 value-back (many xs) ys g e = simp (append-assoc, inner-back xs ys g, params-none ys (e .params))
 
 -- where a member stands
-unfoldable pub memberIn : Plain → List ℕ → Member
-memberIn m ys = record { key = m .key; placed = placedIn (m .value) ys }
+unfoldable pub memberBefore : Plain → List ℕ → Member
+memberBefore m ys = record { key = m .key; placed = placedBefore (m .value) ys }
 
 -- a member is read back
-member-back : (m : Plain) (ys : List ℕ) → GoodMember m → Ends ys → memberOf (memberText m ++ ys) ≡ parsed (memberIn m ys) ys
-unfolding memberText memberIn memberOf assignedOf pick next after mapped headOf
+member-back : (m : Plain) (ys : List ℕ) → GoodMember m → Ends ys → memberOf (memberText m ++ ys) ≡ parsed (memberBefore m ys) ys
+unfolding memberText memberBefore memberOf assignedOf pick next after mapped headOf
 member-back m ys g e = simp (append-assoc, key-back (m .key) (61 ∷ (valueText (m .value) ++ ys)) (g .key) refl, value-back (m .value) ys (g .value) e)
 
 -- the first byte of a member starts a key
@@ -193,11 +193,11 @@ full [] e = e
 full (x ∷ xs) e = refl
 
 -- the last member, and one that another follows
-dict-last : (m : Plain) → GoodMember m → dictTurn (memberText m ++ []) ≡ done (memberIn m [] ∷ []) []
+dict-last : (m : Plain) → GoodMember m → dictTurn (memberText m ++ []) ≡ done (memberBefore m [] ∷ []) []
 unfolding dictTurn partedOf going skip past pick isEmpty headOf
 dict-last m g = simp (member-back m [] g (record { token = refl; params = refl }))
 
-dict-more : (m k : Plain) (ys : List ℕ) → GoodMember m → GoodMember k → dictTurn (memberText m ++ (44 ∷ 32 ∷ (memberText k ++ ys))) ≡ more (memberIn m (44 ∷ 32 ∷ (memberText k ++ ys)) ∷ []) (memberText k ++ ys)
+dict-more : (m k : Plain) (ys : List ℕ) → GoodMember m → GoodMember k → dictTurn (memberText m ++ (44 ∷ 32 ∷ (memberText k ++ ys))) ≡ more (memberBefore m (44 ∷ 32 ∷ (memberText k ++ ys)) ∷ []) (memberText k ++ ys)
 unfolding dictTurn partedOf going skip next past pick isEmpty headOf
 dict-more m k ys g h =
     let l : List ℕ = memberText k ++ ys in
@@ -210,7 +210,7 @@ followingMembers ms = eachAfter (text ", ") (map memberText ms)
 -- where the members stand that are written
 unfoldable pub placedAll : List Plain → List Member
 placedAll [] = []
-placedAll (m ∷ ms) = memberIn m (followingMembers ms) ∷ placedAll ms
+placedAll (m ∷ ms) = memberBefore m (followingMembers ms) ∷ placedAll ms
 
 -- the turns from a member on
 dict-turns : (m : Plain) (ms : List Plain) (n : ℕ) → GoodMember m → AllGood ms → length ms < n → turns dictTurn n (memberText m ++ followingMembers ms) ≡ parsed (placedAll (m ∷ ms)) []
@@ -229,13 +229,13 @@ written-placed (m ∷ ms) (and g a) =
     (every-past isSpace [] (memberText m ++ ys) (unfold every in refl) (member-head m ys g 32 refl), full (memberText m ++ ys) (member-head m ys g 0 refl), dict-turns m ms (suc (length (memberText m ++ ys))) g a (simp length-append (omega (arith, length-map ms memberText, each-long 44 (32 ∷ []) (map memberText ms)))))
 
 -- without its places, a member is the one that was written
-placed-value : (v : Value) (ys : List ℕ) → placedIn v ys .value ≡ v
-unfolding placedIn
+placed-value : (v : Value) (ys : List ℕ) → placedBefore v ys .value ≡ v
+unfolding placedBefore
 placed-value (one x) ys = refl
 placed-value (many xs) ys = refl
 
 placed-plain : (ms : List Plain) → plains (placedAll ms) ≡ ms
-unfolding placedAll memberIn plains
+unfolding placedAll memberBefore plains
 placed-plain [] = refl
 placed-plain (m ∷ ms) = simp (placed-value (m .value) (followingMembers ms), placed-plain ms)
 

@@ -12,11 +12,11 @@ use Rattle.ascii.specs.Reading.{isEmpty, skip, past}
 use Rattle.ascii.specs.Reading.Step.{more}
 use Rattle.ascii.specs.Places.{restOf}
 use Rattle.items.specs.Items.{Item, paramsOf}
-use Rattle.items.specs.Found.{itemAs}
+use Rattle.items.specs.Found.{itemIn}
 use Rattle.items.specs.declared.ItemFound.{ItemFound}
 use Rattle.dictionaries.specs.Dictionaries.{plains, dataOf, dictionary, innerTurn, Member, members, Plain, plainly, readAll, Value}
 use Rattle.dictionaries.specs.Dictionaries.Value.{one, many}
-use Rattle.dictionaries.specs.Lookup.{into, later, lastValueIn, lastFound, cursorAt, onward, walk, itemsFrom, foundAs, isSome, lowNext, highNext}
+use Rattle.dictionaries.specs.Lookup.{into, later, lastValueIn, lastFound, cursorAt, onward, walk, itemsFrom, foundIn, isSome, lowNext, highNext}
 use Rattle.dictionaries.specs.Added.{OneItemMore}
 use Rattle.dictionaries.specs.declared.MemberItem.{MemberItem}
 use Rattle.dictionaries.specs.declared.MemberList.{MemberList}
@@ -68,24 +68,24 @@ dictionary-members s = go (dictionary s)
 
 -- the last member of a key: what `member` answers is the data's last value of that key
 module _ (s key : List ℕ) (r : MemberFound) (is : r ≡ lastFound s key) where
-  pub last-member : foundAs s r ≡ lastValueIn key (members s)
-  last-member = ap (foundAs s) is ∙ found-last s key
+  pub last-member : foundIn s r ≡ lastValueIn key (members s)
+  last-member = ap (foundIn s) is ∙ found-last s key
 
   -- the same by its cases
   pub last-malformed : r ≡ found.NotADictionary → lastValueIn key (members s) ≡ none
-  unfolding foundAs
+  unfolding foundIn
   last-malformed e = rw e at (sym last-member)
 
   pub last-absent : r ≡ found.Absent → lastValueIn key (members s) ≡ some none
-  unfolding foundAs
+  unfolding foundIn
   last-absent e = rw e at (sym last-member)
 
-  pub last-item : (m : MemberItem) → r ≡ found.Item m → lastValueIn key (members s) ≡ some (some (one (itemAs s (m .item))))
-  unfolding foundAs
+  pub last-item : (m : MemberItem) → r ≡ found.Item m → lastValueIn key (members s) ≡ some (some (one (itemIn s (m .item))))
+  unfolding foundIn
   last-item m e = rw e at (sym last-member)
 
   pub last-list : (m : MemberList) → r ≡ found.List m → lastValueIn key (members s) ≡ some (some (many (itemsFrom s (m .first))))
-  unfolding foundAs
+  unfolding foundIn
   last-list m e = rw e at (sym last-member)
 
 -- the parameters of the last member: from the start of the range that `member` answers, they are read up to its end
@@ -97,12 +97,12 @@ list-params s key r m is e = rw (sym is ∙ e) at (found-params s key)
 
 -- the items of a list in order, by the cursor: what `item_at` answers is the first item from there on, and the next cursor has the others
 module _ (s : List ℕ) (c : ℕ) (r : ListItem) (is : r ≡ cursorAt s c) where
-  pub items-item : (f : ItemFound) → r ≡ list.Item f → itemsFrom s c ≡ itemAs s (f .range) ∷ itemsFrom s (f .next)
+  pub items-item : (f : ItemFound) → r ≡ list.Item f → itemsFrom s c ≡ itemIn s (f .range) ∷ itemsFrom s (f .next)
   unfolding walk onward
   items-item f e =
-      let t : innerTurn (drop c s) ≡ more (itemAs s (f .range) ∷ []) (drop (f .next) s) = cursor-step s c f (sym is ∙ e) in
+      let t : innerTurn (drop c s) ≡ more (itemIn s (f .range) ∷ []) (drop (f .next) s) = cursor-step s c f (sym is ∙ e) in
       let h : length (drop (f .next) s) < length (drop c s) = inner-shrinks (drop c s) (drop (f .next) s) _ t in
-      rw t (ap (λ (z : List Item). itemAs s (f .range) ∷ z) (walk-enough (length (drop c s)) (suc (length (drop (f .next) s))) (drop (f .next) s) h (omega arith)))
+      rw t (ap (λ (z : List Item). itemIn s (f .range) ∷ z) (walk-enough (length (drop c s)) (suc (length (drop (f .next) s))) (drop (f .next) s) h (omega arith)))
 
   -- at the end none is left
   pub items-end : r ≡ list.End → itemsFrom s c ≡ []
@@ -111,7 +111,7 @@ module _ (s : List ℕ) (c : ℕ) (r : ListItem) (is : r ≡ cursorAt s c) where
 
   -- a fold over the items, cursor by cursor
   module _ {B : Type 0} (k : B → Item → B) (b R : B) (so-far : into k b (itemsFrom s c) ≡ R) where
-    pub fold-item : (f : ItemFound) (b′ : B) → r ≡ list.Item f → b′ ≡ k b (itemAs s (f .range)) → into k b′ (itemsFrom s (f .next)) ≡ R
+    pub fold-item : (f : ItemFound) (b′ : B) → r ≡ list.Item f → b′ ≡ k b (itemIn s (f .range)) → into k b′ (itemsFrom s (f .next)) ≡ R
     unfolding into
     fold-item f b′ e h = rw h (rw (items-item f e) at so-far)
 

@@ -8,7 +8,7 @@ use native.Mathlib.Omega.{arith}
 use lib.ListN.{length, drop, length-drop, length-append}
 use lib.Dec.{eqb}
 use Rattle.ascii.proofs.Clash.{clash}
-use Rattle.ascii.specs.Bytes.{pick}
+use Rattle.ascii.specs.Bytes.{pick, isSpace, isBlank}
 use Rattle.ascii.specs.Texts.{partOf, sameBytes}
 use Rattle.ascii.specs.Reading.{Parsed, headOf, isEmpty, past, skip, next, after, mapped, going, turnsOf}
 use Rattle.ascii.specs.Reading.Parsed.{parsed, malformed}
@@ -19,9 +19,9 @@ use Rattle.ascii.specs.declared.Read.the-variants as read
 use Rattle.ascii.specs.declared.Turn.{Turn}
 use Rattle.ascii.specs.declared.Turn.the-variants as turn
 use Rattle.ascii.proofs.Reading.{empty-yes, empty-no, went-after, went-malformed}
-use Rattle.items.specs.Items.{isSpace, keyOf}
+use Rattle.items.specs.Items.{keyOf}
 use Rattle.items.proofs.Cuts.{Took, key-took, left-at, left-none, part-took}
-use Rattle.dictionaries.specs.Dictionaries.{Value, Placed, Member, isBlank, assignedOf, memberOf, partedOf, partedBy, dictTurn, readAll, dataOf, dictionary}
+use Rattle.dictionaries.specs.Dictionaries.{Value, Placed, Member, assignedOf, memberOf, partedOf, partedBy, dictTurn, readAll, dataOf, dictionary}
 use Rattle.dictionaries.specs.Dictionaries.Value.{one, many}
 use Rattle.dictionaries.specs.Lookup.{into, latest, lastIn, answerOf, lastFound, valueAt, placedAt, isSome}
 use Rattle.dictionaries.specs.Steps.{newest, oneOf, foldParsed, answered, valueFound, memberValue, KeyIs, endOf}

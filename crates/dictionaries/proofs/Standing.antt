@@ -8,22 +8,22 @@ use native.Mathlib.Omega.{arith}
 use lib.ListN.{length, drop}
 use lib.Dec.{eqb}
 use Rattle.ascii.proofs.Clash.{clash}
-use Rattle.ascii.specs.Bytes.{pick}
+use Rattle.ascii.specs.Bytes.{pick, isSpace, isBlank}
 use Rattle.ascii.specs.Texts.{sameBytes}
 use Rattle.ascii.specs.Reading.{Parsed, Step, headOf, isEmpty, next, skip, past, after, mapped, going, adding, onStep, turns}
 use Rattle.ascii.specs.Reading.Parsed.{parsed, malformed}
 use Rattle.ascii.specs.Reading.Step.{more, done, fail}
 use Rattle.ascii.specs.Places.{restOf}
 use Rattle.ascii.proofs.Suffixes.{Suffix, Ends, StepEnds, suffix-trans, suffix-past, suffix-drop, suffix-length, suffix-place, ends-wide, ends-turns, suffixes}
-use Rattle.items.specs.Items.{Item, Parameter, isSpace, keyOf, bareOf, paramsOf, itemOf}
+use Rattle.items.specs.Items.{Item, Parameter, keyOf, bareOf, paramsOf, itemOf}
 use Rattle.items.specs.Items.Item.{other}
-use Rattle.items.specs.Found.{itemRange, itemBy, itemAs}
+use Rattle.items.specs.Found.{itemRange, itemBy, itemIn}
 use Rattle.items.specs.declared.ItemFound.{ItemFound}
-use Rattle.items.proofs.Cuts.{bare-as, item-as}
+use Rattle.items.proofs.Cuts.{bare-range, item-range}
 use Rattle.items.proofs.Suffixes.{key-ends, bare-ends, params-ends, params-in, item-ends, item-shrinks}
-use Rattle.dictionaries.specs.Dictionaries.{Value, Placed, Member, isBlank, innerTurn, innerOf, closedOf, listOf, loneOf, bareKey, valueOf, assignedOf, memberOf, partedOf, dictTurn, readAll, dataOf, plain, plains, plainly, members}
+use Rattle.dictionaries.specs.Dictionaries.{Value, Placed, Member, innerTurn, innerOf, closedOf, listOf, loneOf, bareKey, valueOf, assignedOf, memberOf, partedOf, dictTurn, readAll, dataOf, plain, plains, plainly, members}
 use Rattle.dictionaries.specs.Dictionaries.Value.{one, many}
-use Rattle.dictionaries.specs.Lookup.{into, latest, lastIn, later, lastValueIn, valueAt, placedAt, answerOf, lastFound, pointedAt, cursorAt, onward, walk, itemsFrom, foundAs}
+use Rattle.dictionaries.specs.Lookup.{into, latest, lastIn, later, lastValueIn, valueAt, placedAt, answerOf, lastFound, pointedAt, cursorAt, onward, walk, itemsFrom, foundIn}
 use Rattle.dictionaries.specs.declared.MemberFound.{MemberFound}
 use Rattle.dictionaries.specs.declared.MemberFound.the-variants as found
 use Rattle.dictionaries.specs.declared.ListItem.the-variants as list
@@ -108,25 +108,25 @@ module _ (s : List ℕ) (c : ℕ) where
   unfolding here
   here-in = suffix-trans (suffix-drop c s) (suffix-past isSpace (drop c s))
 
-  turn-found : (x : Item) (n : List ℕ) (f : ItemFound) → itemOf here ≡ parsed x n → list.Item (record { range = itemRange (length s - length here) x; next = length s - length n }) ≡ list.Item f → more (x ∷ []) n ≡ more (itemAs s (f .range) ∷ []) (drop (f .next) s)
+  turn-found : (x : Item) (n : List ℕ) (f : ItemFound) → itemOf here ≡ parsed x n → list.Item (record { range = itemRange (length s - length here) x; next = length s - length n }) ≡ list.Item f → more (x ∷ []) n ≡ more (itemIn s (f .range) ∷ []) (drop (f .next) s)
   turn-found x n f e u =
       let p : drop (length s - length here) s ≡ here = suffix-place here-in in
       let a : itemRange (length s - length here) x ≡ f .range = cc in
       let b : length s - length n ≡ f .next = cc in
-      let d : itemAs s (itemRange (length s - length here) x) ≡ x = item-as s (length s - length here) x n (omega arith) (ap itemOf p ∙ e) in
+      let d : itemIn s (itemRange (length s - length here) x) ≡ x = item-range s (length s - length here) x n (omega arith) (ap itemOf p ∙ e) in
       let g : drop (length s - length n) s ≡ n = suffix-place (suffix-trans here-in (item-ends here .ends x n e)) in
-      let y : x ≡ itemAs s (f .range) = sym d ∙ ap (itemAs s) a in
+      let y : x ≡ itemIn s (f .range) = sym d ∙ ap (itemIn s) a in
       let z : n ≡ drop (f .next) s = sym g ∙ ap (λ (k : ℕ). drop k s) b in
       λ j. more (y j ∷ []) (z j)
 
-  pub cursor-step : (f : ItemFound) → cursorAt s c ≡ list.Item f → innerTurn (drop c s) ≡ more (itemAs s (f .range) ∷ []) (drop (f .next) s)
+  pub cursor-step : (f : ItemFound) → cursorAt s c ≡ list.Item f → innerTurn (drop c s) ≡ more (itemIn s (f .range) ∷ []) (drop (f .next) s)
   unfolding cursorAt innerTurn skip next here
   cursor-step f e = go (eqb (headOf here) 41) (itemOf here) refl e
     where
-      parted : (t : Bool) (x : Item) (n : List ℕ) → itemOf here ≡ parsed x n → pick t (list.Item (record { range = itemRange (length s - length here) x; next = length s - length n })) list.End ≡ list.Item f → pick t (more (x ∷ []) n) fail ≡ more (itemAs s (f .range) ∷ []) (drop (f .next) s)
+      parted : (t : Bool) (x : Item) (n : List ℕ) → itemOf here ≡ parsed x n → pick t (list.Item (record { range = itemRange (length s - length here) x; next = length s - length n })) list.End ≡ list.Item f → pick t (more (x ∷ []) n) fail ≡ more (itemIn s (f .range) ∷ []) (drop (f .next) s)
       parted = unfold pick in (elim [ true ↦ λ x n h u. turn-found x n f h u | false ↦ λ x n h u. clash cc ])
 
-      go : (b : Bool) (g : Parsed Item) → itemOf here ≡ g → pick b list.End (pointedAt s here g) ≡ list.Item f → pick b (done [] (drop 1 here)) (going g (λ x n. pick (eqb (headOf n) 32 || eqb (headOf n) 41) (more (x ∷ []) n) fail)) ≡ more (itemAs s (f .range) ∷ []) (drop (f .next) s)
+      go : (b : Bool) (g : Parsed Item) → itemOf here ≡ g → pick b list.End (pointedAt s here g) ≡ list.Item f → pick b (done [] (drop 1 here)) (going g (λ x n. pick (eqb (headOf n) 32 || eqb (headOf n) 41) (more (x ∷ []) n) fail)) ≡ more (itemIn s (f .range) ∷ []) (drop (f .next) s)
       go = unfold pick going pointedAt in (elim [ true ↦ λ g h u. clash cc | false ↦ elim [ parsed x n ↦ λ h u. parted (eqb (headOf n) 32 || eqb (headOf n) 41) x n h u | malformed ↦ λ h u. clash cc ] ])
 
   pub cursor-stop : (r : List ℕ → List Item) → cursorAt s c ≡ list.End → onward (innerTurn (drop c s)) r ≡ []
@@ -141,7 +141,7 @@ module _ (s : List ℕ) (c : ℕ) where
 
 -- a value stands where its member says
 abbrev Stands : List ℕ → Value → ℕ → Type 0
-Stands s (one x) k = itemAs s (itemRange (length s - k) x) ≡ x
+Stands s (one x) k = itemIn s (itemRange (length s - k) x) ≡ x
 Stands s (many xs) k = itemsFrom s (length s - k) ≡ xs
 
 -- and so do its parameters
@@ -149,14 +149,14 @@ abbrev pub Closes : List ℕ → Placed → Type 0
 Closes s p = restOf (paramsOf (drop (length s - p .params) s)) ≡ some (drop (length s - p .end) s)
 
 abbrev pub Says : List ℕ → Placed → Type 0
-Says s p = (foundAs s (placedAt s p) ≡ some (some (p .value))) × Closes s p
+Says s p = (foundIn s (placedAt s p) ≡ some (some (p .value))) × Closes s p
 
 says : (s : List ℕ) (p : Placed) → Stands s (p .value) (p .start) → Closes s p → Says s p
 unfolding placedAt
 says s p h c = (go (p .value) h, c)
   where
-    go : (v : Value) → Stands s v (p .start) → foundAs s (valueAt s p v) ≡ some (some v)
-    go = unfold foundAs valueAt in (elim [ one x ↦ λ e. ap (λ (z : Item). some (some (one z))) e | many xs ↦ λ e. ap (λ (z : List Item). some (some (many z))) e ])
+    go : (v : Value) → Stands s v (p .start) → foundIn s (valueAt s p v) ≡ some (some v)
+    go = unfold foundIn valueAt in (elim [ one x ↦ λ e. ap (λ (z : Item). some (some (one z))) e | many xs ↦ λ e. ap (λ (z : List Item). some (some (many z))) e ])
 
 -- what is read from an end of a text says what stands there
 record Good (s : List ℕ) (g : Parsed Placed) : Type 0 where
@@ -186,7 +186,7 @@ module _ (s : List ℕ) where
   lone-good l h = go (bareOf l) refl
     where
       go : (g : Parsed Item) → bareOf l ≡ g → Good s (after g (λ x m. closedOf (one x) l m))
-      go = unfold after in (elim [ parsed x m ↦ λ e. closed-good (one x) l m (suffix-trans h (bare-ends l .ends x m e)) (bare-as s (length s - length l) x m (omega arith) (ap bareOf (suffix-place h) ∙ e)) | malformed ↦ λ e. good-malformed ])
+      go = unfold after in (elim [ parsed x m ↦ λ e. closed-good (one x) l m (suffix-trans h (bare-ends l .ends x m e)) (bare-range s (length s - length l) x m (omega arith) (ap bareOf (suffix-place h) ∙ e)) | malformed ↦ λ e. good-malformed ])
 
   list-good : (l : List ℕ) → Suffix l s → Good s (listOf l)
   unfolding listOf innerOf
@@ -197,7 +197,7 @@ module _ (s : List ℕ) where
 
   key-good : (l : List ℕ) → Suffix l s → Good s (bareKey l)
   unfolding bareKey
-  key-good l h = closed-good (one other) l l h (unfold itemAs itemRange itemBy in refl)
+  key-good l h = closed-good (one other) l l h (unfold itemIn itemRange itemBy in refl)
 
   assigned-good : (l : List ℕ) → Suffix l s → Good s (assignedOf l)
   unfolding assignedOf valueOf next
@@ -273,7 +273,7 @@ module _ (s : List ℕ) where
   -- the last member, with and without places
   module _ (key : List ℕ) where
     abbrev Same : Option Member → Option Value → Type 0
-    Same b v = foundAs s (answerOf s (some b)) ≡ some v
+    Same b v = foundIn s (answerOf s (some b)) ≡ some v
 
     last-says : (ms : List Member) → AllSay s ms → (b : Option Member) (v : Option Value) → Same b v → Same (into (latest key) b ms) (into (later key) v (plains ms))
     unfolding into plains latest later
@@ -283,11 +283,11 @@ module _ (s : List ℕ) where
         go : (t : Bool) → Same (pick t (some m) b) (pick t (some (m .placed .value)) v)
         go = unfold pick answerOf in (elim [ true ↦ a .0 .0 | false ↦ h ])
 
-    pub found-last : foundAs s (lastFound s key) ≡ lastValueIn key (members s)
+    pub found-last : foundIn s (lastFound s key) ≡ lastValueIn key (members s)
     found-last = go (readAll s) read-says
       where
-        go : (g : Parsed (List Member)) → ParsedSays g → foundAs s (answerOf s (lastIn key (dataOf g))) ≡ lastValueIn key (plainly (dataOf g))
-        go = unfold dataOf lastIn plainly lastValueIn foundAs answerOf in (elim [ parsed ms l ↦ λ a. last-says ms a none none refl | malformed ↦ λ a. refl ])
+        go : (g : Parsed (List Member)) → ParsedSays g → foundIn s (answerOf s (lastIn key (dataOf g))) ≡ lastValueIn key (plainly (dataOf g))
+        go = unfold dataOf lastIn plainly lastValueIn foundIn answerOf in (elim [ parsed ms l ↦ λ a. last-says ms a none none refl | malformed ↦ λ a. refl ])
 
     -- the parameters of the last member stand where the answer says
     params-say : (ms : List Member) → AllSay s ms → (b : Option Member) → ParamsStand s (answerOf s (some b)) → ParamsStand s (answerOf s (some (into (latest key) b ms)))

@@ -9,7 +9,7 @@ use lib.Seq.{drop-drop}
 use lib.Dec.{eqb}
 use borrow.Author.Tests.{eq-eqb, ne-eqb}
 use Rattle.ascii.proofs.Clash.{clash}
-use Rattle.ascii.specs.Bytes.{pick}
+use Rattle.ascii.specs.Bytes.{pick, isSpace, isBlank}
 use Rattle.ascii.specs.Reading.{Parsed, headOf, isEmpty, past, skip, next, after}
 use Rattle.ascii.specs.Reading.Parsed.{parsed, malformed}
 use Rattle.ascii.specs.Reading.Step.{more, done, fail}
@@ -17,7 +17,7 @@ use Rattle.ascii.specs.Places.{restOf, leftAt, low, high, wentOf, Went}
 use Rattle.ascii.specs.declared.Read.{Read}
 use Rattle.ascii.specs.declared.Read.the-variants as read
 use Rattle.ascii.proofs.Reading.{empty-yes, empty-no}
-use Rattle.items.specs.Items.{Item, Parameter, isSpace, bareOf, paramsOf, itemOf}
+use Rattle.items.specs.Items.{Item, Parameter, bareOf, paramsOf, itemOf}
 use Rattle.items.specs.Items.Item.{other}
 use Rattle.items.specs.Found.{itemRange, itemFound}
 use Rattle.items.specs.Found as f
@@ -26,7 +26,7 @@ use Rattle.items.specs.declared.ItemFound.{ItemFound}
 use Rattle.items.specs.declared.ItemRead.{ItemRead}
 use Rattle.items.specs.declared.ItemRead.the-variants as item
 use Rattle.items.proofs.Cuts.{left-at, left-none, past-item}
-use Rattle.dictionaries.specs.Dictionaries.{Value, Placed, isBlank, innerOf, closedOf, listOf, loneOf, bareKey, partedOf}
+use Rattle.dictionaries.specs.Dictionaries.{Value, Placed, innerOf, closedOf, listOf, loneOf, bareKey, partedOf}
 use Rattle.dictionaries.specs.Dictionaries.Value.{one, many}
 use Rattle.dictionaries.specs.Lookup.{valueAt, placedAt, pointedAt, cursorAt}
 use Rattle.dictionaries.specs.Steps.{valueFound, endOf}

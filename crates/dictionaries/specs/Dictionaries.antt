@@ -5,11 +5,11 @@ use mathlib.Core.Bool.{Bool, _||_}
 use mathlib.Core.Option.{Option, some, none}
 use lib.ListN.{length}
 use lib.Dec.{eqb}
-use Rattle.ascii.specs.Bytes.{pick}
+use Rattle.ascii.specs.Bytes.{pick, isSpace, isBlank}
 use Rattle.ascii.specs.Reading.{Parsed, Step, headOf, isEmpty, next, skip, after, mapped, going, turnsOf}
 use Rattle.ascii.specs.Reading.Parsed.{parsed, malformed}
 use Rattle.ascii.specs.Reading.Step.{more, done, fail}
-use Rattle.items.specs.Items.{Item, isSpace, keyOf, bareOf, paramsOf, itemOf}
+use Rattle.items.specs.Items.{Item, keyOf, bareOf, paramsOf, itemOf}
 use Rattle.items.specs.Items.Item.{other}
 
 -- a member's value: an item, or an inner list of items
@@ -28,10 +28,6 @@ pub record Placed : Type 0 where
 pub record Member : Type 0 where
   pub key : List ℕ
   pub placed : Placed
-
--- space and tab: RFC 8941's OWS
-abbrev pub isBlank : ℕ → Bool
-isBlank b = eqb b 32 || eqb b 9
 
 -- 4.2.1.2, an item of an inner list, which a space or ")" must follow, or the list's end
 unfoldable pub innerTurn : List ℕ → Step Item

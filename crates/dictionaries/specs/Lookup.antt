@@ -6,13 +6,13 @@ use mathlib.Core.Bool.{Bool, true, false, _||_}
 use mathlib.Core.Option.{Option, some, none}
 use lib.ListN.{length, drop}
 use lib.Dec.{eqb}
-use Rattle.ascii.specs.Bytes.{pick}
+use Rattle.ascii.specs.Bytes.{pick, isSpace}
 use Rattle.ascii.specs.Texts.{sameBytes}
 use Rattle.ascii.specs.Reading.{Parsed, Step, headOf, skip}
 use Rattle.ascii.specs.Reading.Parsed.{parsed, malformed}
 use Rattle.ascii.specs.Reading.Step.{more, done, fail}
-use Rattle.items.specs.Items.{Item, isSpace, itemOf}
-use Rattle.items.specs.Found.{itemRange, itemAs}
+use Rattle.items.specs.Items.{Item, itemOf}
+use Rattle.items.specs.Found.{itemRange, itemIn}
 use Rattle.dictionaries.specs.Dictionaries.{Value, Placed, Member, Plain, innerTurn, dictionary}
 use Rattle.dictionaries.specs.Dictionaries.Value.{one, many}
 use Rattle.dictionaries.specs.declared.MemberFound.{MemberFound}
@@ -88,11 +88,11 @@ abbrev pub itemsFrom : List ℕ → ℕ → List Item
 itemsFrom s c = walk (suc (length (drop c s))) (drop c s)
 
 -- what an answer says: none where the text is not a dictionary, some none where it has no such member
-unfoldable pub foundAs : List ℕ → MemberFound → Option (Option Value)
-foundAs s found.NotADictionary = none
-foundAs s found.Absent = some none
-foundAs s (found.Item m) = some (some (one (itemAs s (m .item))))
-foundAs s (found.List m) = some (some (many (itemsFrom s (m .first))))
+unfoldable pub foundIn : List ℕ → MemberFound → Option (Option Value)
+foundIn s found.NotADictionary = none
+foundIn s found.Absent = some none
+foundIn s (found.Item m) = some (some (one (itemIn s (m .item))))
+foundIn s (found.List m) = some (some (many (itemsFrom s (m .first))))
 
 -- the next cursor, as a bound from below and from above
 abbrev pub lowNext : ListItem → ℕ

@@ -9,17 +9,12 @@ ghost use Rattle.dictionaries.specs.Lookup.{into, lastFound, isSome, IsP
 ghost use Rattle.dictionaries.specs.Steps.{newest, oneOf, foldParsed, answered, endOf, IsValue, IsMember};
 use ascii::Class;
 use ascii::Read;
+use ascii::TextRange;
 use ascii::Turn;
 use items::ItemFound;
 use items::ItemKind;
 use items::ItemRange;
 use items::ItemRead;
-
-// Where a part of the text stands.
-pub struct TextRange {
-    pub from: usize,
-    pub to: usize,
-}
 
 // A member that is an item, and where its parameters stand.
 pub struct MemberItem {

@@ -3,7 +3,7 @@ use declarations::Admission;
 use declarations::Setting;
 use dictionaries::ListItem;
 use dictionaries::MemberFound;
-use dictionaries::TextRange;
+use ascii::TextRange;
 use items::ItemKind;
 use items::ItemRange;
 use origins::OriginRange;

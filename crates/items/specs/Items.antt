@@ -4,7 +4,7 @@ use mathlib.Core.List.{List, [], _∷_}
 use mathlib.Core.Bool.{Bool, _||_}
 use lib.ListN.{take}
 use lib.Dec.{leb, eqb}
-use Rattle.ascii.specs.Bytes.{pick, isKeyStart, isKeyByte, isTokenStart, isTokenByte, isBase64, isText, isDigit}
+use Rattle.ascii.specs.Bytes.{pick, isKeyStart, isKeyByte, isTokenStart, isTokenByte, isBase64, isText, isDigit, isSpace}
 use Rattle.ascii.specs.Reading.{Parsed, Step, headOf, headIs, next, skip, letLen, runOf, past, after, mapped, going, turnsOf}
 use Rattle.ascii.specs.Reading.Parsed.{parsed, malformed}
 use Rattle.ascii.specs.Reading.Step.{more, done, fail}
@@ -18,9 +18,6 @@ pub data Item : Type 0 where
 pub record Parameter : Type 0 where
   pub key : List ℕ
   pub value : Item
-
-abbrev pub isSpace : ℕ → Bool
-isSpace b = eqb b 32
 
 -- 4.2.3.3, a key
 unfoldable pub keyOf : List ℕ → Parsed (List ℕ)
