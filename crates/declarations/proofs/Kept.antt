@@ -15,13 +15,12 @@ use Rattle.origins.specs.Origins.{Origin}
 use Rattle.features.specs.Features.{nameOf, featureCount}
 use Rattle.items.specs.Found.{itemIn}
 use Rattle.items.specs.declared.ItemRange.{ItemRange}
-use Rattle.dictionaries.specs.Dictionaries.{dictionary, members}
+use Rattle.dictionaries.specs.Dictionaries.{members}
 use Rattle.dictionaries.specs.Lookup.{lastFound, itemsFrom, isSome}
 use Rattle.dictionaries.specs.declared.MemberItem.{MemberItem}
 use Rattle.dictionaries.specs.declared.MemberList.{MemberList}
 use Rattle.dictionaries.specs.declared.MemberFound.{MemberFound}
 use Rattle.dictionaries.specs.declared.MemberFound.the-variants as found
-use Rattle.dictionaries.proofs.Laws.{dictionary-members}
 use Rattle.declarations.specs.Allowlists.{Allowlist, meaningOf, hasStar, hasSelf, withSource, sourcesOf, anyAdmits, allowlist, listAdmits}
 use Rattle.declarations.specs.Declarations.{isMalformed}
 use Rattle.declarations.specs.Settings.{itemsAt, settingAs, undeclared, declaredBy, loneSetting, memberSetting, settingOf, settingsFrom, someAdmits, admissionAs}
@@ -109,9 +108,9 @@ settings-all s l i n a b e =
     let u : i ≡ featureCount = omega arith in
     sym (take-all i l (omega arith)) ∙ (e ∙ ap (λ (m : ℕ). settingsFrom s 0 m) u)
 
-pub malformed-is : (s : List ℕ) (b : Bool) → b ≡ isSome (dictionary s) → not b ≡ isMalformed s
+pub malformed-is : (s : List ℕ) (b : Bool) → b ≡ isSome (members s) → not b ≡ isMalformed s
 unfolding isMalformed
-malformed-is s b h = rw (h, dictionary-members s)
+malformed-is s b h = rw h
 
 -- an answer of admission
 pub admission-yes : (b : Bool) → b ≡ true → admission.Admitted ≡ admissionAs (some b)

@@ -21,7 +21,7 @@ use Rattle.items.specs.Found.{itemIn}
 use Rattle.dictionaries.specs.Dictionaries.{Value, Plain, members}
 use Rattle.dictionaries.specs.Dictionaries.Value.{one, many}
 use Rattle.dictionaries.specs.Lookup.{itemsFrom, cursorAt, lastFound, lastValueIn, isSome}
-use Rattle.dictionaries.specs.Added.{OneItemMore}
+use Rattle.dictionaries.specs.OneItemMore.{OneItemMore}
 use Rattle.dictionaries.specs.declared.MemberFound.{MemberFound}
 use Rattle.dictionaries.specs.declared.MemberFound.the-variants as found
 use Rattle.dictionaries.proofs.Laws.{empty-members, last-of-empty, last-of-none, last-malformed, last-absent, last-item, last-list, items-item, items-end, Grown, LastGrown, last-grown}

@@ -1,31 +1,40 @@
--- What upper layers use of dictionaries. Assumes nothing.
+-- What the crates above use of dictionaries, here and in its parts: InnerLists (`items-item`, `items-end`, the items of a list by its cursor),
+-- ReadBack (`written-back`, what is written is read back), Written (the texts that are written, by their cases), Bytes (how many bytes the items
+-- of a list take), Members (`cursor-low`, `cursor-high`). Assumes nothing.
 use mathlib.Core.Path.{_≡_, refl, ap, _∙_, sym}
-use Prim.Native.Nat.{ℕ, suc, _+_, _-_, _<_}
+use Prim.Native.Nat.{ℕ}
 use mathlib.Core.List.{List, [], _∷_, _++_}
 use mathlib.Core.Bool.{Bool, true, false}
 use mathlib.Core.Option.{Option, some, none}
-use native.Mathlib.Omega.{arith}
 use lib.ListN.{length, drop}
 use Rattle.ascii.specs.Bytes.{pick}
 use Rattle.ascii.specs.Texts.{sameBytes}
-use Rattle.ascii.specs.Reading.{isEmpty, skip, past}
-use Rattle.ascii.specs.Reading.Step.{more}
+use Rattle.ascii.specs.Reading.{Parsed, isEmpty, skip, past}
+use Rattle.ascii.specs.Reading.Parsed.{parsed, malformed}
 use Rattle.ascii.specs.Places.{restOf}
-use Rattle.items.specs.Items.{Item, paramsOf}
+use Rattle.ascii.specs.declared.TextRange.{TextRange}
+use Rattle.ascii.proofs.Clash.{clash}
+use Rattle.items.specs.Items.{Item, Parameter, paramsOf}
 use Rattle.items.specs.Found.{itemIn}
 use Rattle.items.specs.declared.ItemFound.{ItemFound}
-use Rattle.dictionaries.specs.Dictionaries.{plains, dataOf, dictionary, innerTurn, Member, members, Plain, plainly, readAll, Value}
+use Rattle.dictionaries.specs.Dictionaries.{plains, dataOf, dictionary, Member, members, Plain, plainly, readAll, Value}
 use Rattle.dictionaries.specs.Dictionaries.Value.{one, many}
-use Rattle.dictionaries.specs.Lookup.{into, later, lastValueIn, lastFound, cursorAt, onward, walk, itemsFrom, foundIn, isSome, lowNext, highNext}
-use Rattle.dictionaries.specs.Added.{OneItemMore}
+use Rattle.dictionaries.specs.Lookup.{into, later, lastValueIn, lastParametersIn, lastFound, cursorAt, itemsFrom, parametersIn, foundIn, foundParametersIn, isSome, lowNext, highNext}
+use Rattle.dictionaries.specs.Members.{membersFrom, withFirst, memberIn, nextIn, nextAt, foldMembers}
+use Rattle.dictionaries.specs.OneItemMore.{OneItemMore}
 use Rattle.dictionaries.specs.declared.MemberItem.{MemberItem}
 use Rattle.dictionaries.specs.declared.MemberList.{MemberList}
+use Rattle.dictionaries.specs.declared.MemberAt.{MemberAt}
 use Rattle.dictionaries.specs.declared.MemberFound.{MemberFound}
 use Rattle.dictionaries.specs.declared.MemberFound.the-variants as found
+use Rattle.dictionaries.specs.declared.NextMember.{NextMember}
+use Rattle.dictionaries.specs.declared.NextMember.the-variants as answer
 use Rattle.dictionaries.specs.declared.ListItem.{ListItem}
 use Rattle.dictionaries.specs.declared.ListItem.the-variants as list
-use Rattle.dictionaries.proofs.Folds.{into-append}
-use Rattle.dictionaries.proofs.Standing.{walk-enough, inner-shrinks, cursor-step, cursor-stop, found-last, found-params}
+pub use Rattle.dictionaries.proofs.InnerLists.{items-item, items-end}
+use Rattle.dictionaries.proofs.Places.{found-last, found-parameters, found-ends}
+use Rattle.dictionaries.proofs.NextMembers.{next-said}
+use Rattle.dictionaries.proofs.Lookup.{fold-first, fold-none, fold-malformed}
 
 -- the empty text is a dictionary with no members
 pub empty-members : members [] ≡ some []
@@ -59,12 +68,14 @@ module _ (key : List ℕ) (v : Option Value) where
   unfolding into later pick
   fold-other m ms e = rw e
 
--- a text is a dictionary exactly if it has a list of members, perhaps empty
-pub dictionary-members : (s : List ℕ) → isSome (dictionary s) ≡ isSome (members s)
-dictionary-members s = go (dictionary s)
-  where
-    go : (d : Option (List Member)) → isSome d ≡ isSome (plainly d)
-    go = unfold isSome plainly in (elim [ some ms ↦ refl | none ↦ refl ])
+-- whether there is something
+pub some-is : {A : Type 0} (a : A) → isSome (some a) ≡ true
+unfolding isSome
+some-is a = refl
+
+pub none-is : (A : Type 0) → isSome {A = A} none ≡ false
+unfolding isSome
+none-is A = refl
 
 -- the last member of a key: what `member` answers is the data's last value of that key
 module _ (s key : List ℕ) (r : MemberFound) (is : r ≡ lastFound s key) where
@@ -88,36 +99,74 @@ module _ (s key : List ℕ) (r : MemberFound) (is : r ≡ lastFound s key) where
   unfolding foundIn
   last-list m e = rw e at (sym last-member)
 
--- the parameters of the last member: from the start of the range that `member` answers, they are read up to its end
-pub item-params : (s key : List ℕ) (r : MemberFound) (m : MemberItem) → r ≡ lastFound s key → r ≡ found.Item m → restOf (paramsOf (drop (m .params .from) s)) ≡ some (drop (m .params .to) s)
-item-params s key r m is e = rw (sym is ∙ e) at (found-params s key)
+-- the parameters of the last member of a key, and that they are read from the start of their range up to its end
+pub record LastParameters (s key : List ℕ) (p : TextRange) : Type 0 where
+  pub parameters : List Parameter
+  pub are : lastParametersIn key (dictionary s) ≡ some (some parameters)
+  pub read : paramsOf (drop (p .from) s) ≡ parsed parameters (drop (p .to) s)
 
-pub list-params : (s key : List ℕ) (r : MemberFound) (m : MemberList) → r ≡ lastFound s key → r ≡ found.List m → restOf (paramsOf (drop (m .params .from) s)) ≡ some (drop (m .params .to) s)
-list-params s key r m is e = rw (sym is ∙ e) at (found-params s key)
+module _ (s key : List ℕ) (p : TextRange) (are : some (parametersIn s p) ≡ lastParametersIn key (dictionary s)) (ends : restOf (paramsOf (drop (p .from) s)) ≡ some (drop (p .to) s)) where
+  parameters-read : LastParameters s key p
+  unfolding parametersIn
+  parameters-read = go (paramsOf (drop (p .from) s)) refl are ends
+    where
+      go : (g : Parsed (List Parameter)) → paramsOf (drop (p .from) s) ≡ g → some (dataOf g) ≡ lastParametersIn key (dictionary s) → restOf g ≡ some (drop (p .to) s) → LastParameters s key p
+      go = unfold dataOf restOf in (elim [ parsed ps l ↦ λ e a r. (let d : l ≡ drop (p .to) s = cc in record { parameters = ps; are = sym a; read = e ∙ ap (parsed ps) d }) | malformed ↦ λ e a r. clash cc ])
 
--- the items of a list in order, by the cursor: what `item_at` answers is the first item from there on, and the next cursor has the others
-module _ (s : List ℕ) (c : ℕ) (r : ListItem) (is : r ≡ cursorAt s c) where
-  pub items-item : (f : ItemFound) → r ≡ list.Item f → itemsFrom s c ≡ itemIn s (f .range) ∷ itemsFrom s (f .next)
-  unfolding walk onward
-  items-item f e =
-      let t : innerTurn (drop c s) ≡ more (itemIn s (f .range) ∷ []) (drop (f .next) s) = cursor-step s c f (sym is ∙ e) in
-      let h : length (drop (f .next) s) < length (drop c s) = inner-shrinks (drop c s) (drop (f .next) s) _ t in
-      rw t (ap (λ (z : List Item). itemIn s (f .range) ∷ z) (walk-enough (length (drop c s)) (suc (length (drop (f .next) s))) (drop (f .next) s) h (omega arith)))
+module _ (s key : List ℕ) (r : MemberFound) (is : r ≡ lastFound s key) where
+  pub item-parameters : (m : MemberItem) → r ≡ found.Item m → LastParameters s key (m .params)
+  unfolding foundParametersIn
+  item-parameters m e = parameters-read s key (m .params) (rw (sym is ∙ e) at (found-parameters s key)) (rw (sym is ∙ e) at (found-ends s key))
+
+  pub list-parameters : (m : MemberList) → r ≡ found.List m → LastParameters s key (m .params)
+  unfolding foundParametersIn
+  list-parameters m e = parameters-read s key (m .params) (rw (sym is ∙ e) at (found-parameters s key)) (rw (sym is ∙ e) at (found-ends s key))
+
+-- the members of a text, by the cursor: what `next_member` answers is the first member from there on, and the next cursor has the others
+pub from-start : (s : List ℕ) → membersFrom s 0 ≡ members s
+from-start s = refl
+
+module _ (s : List ℕ) (c : ℕ) (r : NextMember) (is : r ≡ nextAt s c) where
+  pub from-member : (f : MemberAt) → r ≡ answer.Member f → membersFrom s c ≡ withFirst (memberIn s f) (membersFrom s (f .next))
+  unfolding nextIn
+  from-member f e = sym (next-said s c (answer.Member f) (sym e ∙ is))
 
   -- at the end none is left
-  pub items-end : r ≡ list.End → itemsFrom s c ≡ []
-  unfolding walk
-  items-end e = cursor-stop s c (λ m. walk (length (drop c s)) m) (sym is ∙ e)
+  pub from-end : r ≡ answer.End → membersFrom s c ≡ some []
+  unfolding nextIn
+  from-end e = sym (next-said s c answer.End (sym e ∙ is))
 
+  pub from-malformed : r ≡ answer.NotADictionary → membersFrom s c ≡ none
+  unfolding nextIn
+  from-malformed e = sym (next-said s c answer.NotADictionary (sym e ∙ is))
+
+  -- a fold over the members, cursor by cursor
+  module _ {B : Type 0} (k : B → Plain → B) (b : B) (R : Option B) (so-far : foldMembers k b (membersFrom s c) ≡ R) where
+    pub fold-member : (f : MemberAt) (b′ : B) → r ≡ answer.Member f → b′ ≡ k b (memberIn s f) → foldMembers k b′ (membersFrom s (f .next)) ≡ R
+    fold-member f b′ e h = rw h (sym (fold-first k b (memberIn s f) (membersFrom s (f .next))) ∙ (rw (from-member f e) at so-far))
+
+    pub fold-members-end : r ≡ answer.End → some b ≡ R
+    fold-members-end e = sym (fold-none k b) ∙ (rw (from-end e) at so-far)
+
+    pub fold-members-malformed : r ≡ answer.NotADictionary → none ≡ R
+    fold-members-malformed e = sym (fold-malformed k b) ∙ (rw (from-malformed e) at so-far)
+
+-- a fold over no members, and from the start, by the members
+pub fold-members : {B : Type 0} (k : B → Plain → B) (b : B) (ms : List Plain) → foldMembers k b (some ms) ≡ some (into k b ms)
+unfolding foldMembers
+fold-members k b ms = refl
+
+-- the items of a list in order, by the cursor: `items-item`, `items-end` of InnerLists
+module _ (s : List ℕ) (c : ℕ) (r : ListItem) (is : r ≡ cursorAt s c) where
   -- a fold over the items, cursor by cursor
   module _ {B : Type 0} (k : B → Item → B) (b R : B) (so-far : into k b (itemsFrom s c) ≡ R) where
     pub fold-item : (f : ItemFound) (b′ : B) → r ≡ list.Item f → b′ ≡ k b (itemIn s (f .range)) → into k b′ (itemsFrom s (f .next)) ≡ R
     unfolding into
-    fold-item f b′ e h = rw h (rw (items-item f e) at so-far)
+    fold-item f b′ e h = rw h (rw (items-item s c r is f e) at so-far)
 
     pub fold-end : r ≡ list.End → b ≡ R
     unfolding into
-    fold-end e = rw (items-end e) at so-far
+    fold-end e = rw (items-end s c r is e) at so-far
 
 -- a value, and the same value or one with an item more
 pub data Grown : Option Value → Option Value → Type 0 where
@@ -131,6 +180,11 @@ grown-fold key (m ∷ ms) v w g = grown-fold key ms (later key v m) (later key w
   where
     go : (t : Bool) → Grown (pick t (some (m .value)) v) (pick t (some (m .value)) w)
     go = unfold pick in (elim [ true ↦ same | false ↦ g ])
+
+into-append : {A B : Type 0} (k : B → A → B) (b : B) (xs ys : List A) → into k b (xs ++ ys) ≡ into k (into k b xs) ys
+unfolding into
+into-append k b [] ys = refl
+into-append k b (x ∷ xs) ys = into-append k (k b x) xs ys
 
 grown-in : (key : List ℕ) (before behind : List Plain) (k : List ℕ) (front back : List Item) (x : Item) → Grown (into (later key) none (before ++ (record { key = k; value = many (front ++ back) } ∷ behind))) (into (later key) none (before ++ (record { key = k; value = many (front ++ (x ∷ back)) } ∷ behind)))
 grown-in key before behind k front back x =

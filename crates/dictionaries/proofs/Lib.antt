@@ -1,9 +1,11 @@
-pub mod Folds
+pub mod Suffixes
+pub mod InnerLists
+pub mod Places
 pub mod Values
 pub mod Members
-pub mod Standing
+pub mod NextMembers
+pub mod Lookup
 pub mod Laws
-pub mod Tallies
-pub mod Headers
-pub mod Back
-pub mod WrittenHeaders
+pub mod ReadBack
+pub mod OneItemMoreExamples
+pub mod WrittenExamples

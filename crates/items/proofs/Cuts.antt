@@ -159,15 +159,16 @@ left-at s r q w e h = rw e at h
 pub left-none : (s : List ℕ) (r : Read) (w : Option (List ℕ)) → r ≡ read.Malformed → leftAt s r ≡ w → leftAt s read.Malformed ≡ w
 left-none s r w e h = rw e at h
 
-left-parsed : {A : Type 0} (s m : List ℕ) (q : ℕ) (x : A) → leftAt s (read.At q) ≡ restOf (parsed x m) → drop q s ≡ m
+-- and what is left by a reading, taken apart
+pub left-parsed : {A : Type 0} (s m : List ℕ) (q : ℕ) (x : A) → leftAt s (read.At q) ≡ restOf (parsed x m) → drop q s ≡ m
 unfolding restOf leftAt
 left-parsed s m q x v = cc
 
-left-not : (A : Type 0) (s : List ℕ) (q : ℕ) → leftAt s (read.At q) ≡ restOf {A = A} malformed → ⊥
+pub left-not : (A : Type 0) (s : List ℕ) (q : ℕ) → leftAt s (read.At q) ≡ restOf {A = A} malformed → ⊥
 unfolding restOf leftAt
 left-not A s q v = clash cc
 
-none-parsed : {A : Type 0} (s m : List ℕ) (x : A) → leftAt s read.Malformed ≡ restOf (parsed x m) → ⊥
+pub none-parsed : {A : Type 0} (s m : List ℕ) (x : A) → leftAt s read.Malformed ≡ restOf (parsed x m) → ⊥
 unfolding restOf leftAt
 none-parsed s m x v = clash cc
 
@@ -315,3 +316,8 @@ item-range s i x m h e = go (bareOf (drop i s)) refl e
 
     go : (g : Parsed Item) → bareOf (drop i s) ≡ g → after g (λ y n. mapped (λ p. y) (paramsOf n)) ≡ parsed x m → itemIn s (itemRange i x) ≡ x
     go = unfold after in (elim [ parsed y n ↦ λ b u. let v : y ≡ x = named y (paramsOf n) u in bare-range s i x n h (b ∙ ap (λ (z : Item). parsed z n) v) | malformed ↦ λ b u. clash cc ])
+
+-- an item that is neither token nor string has no text
+pub other-range : (s : List ℕ) (i : ℕ) → itemIn s (itemRange i other) ≡ other
+unfolding itemIn itemRange itemBy
+other-range s i = refl

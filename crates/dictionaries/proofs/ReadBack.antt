@@ -8,6 +8,7 @@ use native.Mathlib.Omega.{arith}
 use lib.ListN.{length, length-append, length-map}
 use lib.Dec.{eqb}
 use borrow.Author.Tests.{eqb-true}
+use Rattle.ascii.proofs.Clash.{clash}
 use Rattle.ascii.specs.Bytes.{pick, isKeyStart, isKeyByte, isTokenStart, isTokenByte, isText, isSpace, isBlank}
 use Rattle.ascii.specs.Literals.{text}
 use Rattle.ascii.specs.Texts.{every}
@@ -40,7 +41,7 @@ differs p x c h k = go (eqb x c) refl
 -- a text whose first byte is of a class is not empty, so what follows it does not change its first byte
 starts-on : (p : ℕ → Bool) (t ys : List ℕ) → headIs p t ≡ true → p 0 ≡ false → headOf (t ++ ys) ≡ headOf t
 unfolding headIs headOf
-starts-on p [] ys h z = absurd (let w : _≡_ {A = ℕ} 0 1 = cc in omega arith)
+starts-on p [] ys h z = clash cc
 starts-on p (x ∷ xs) ys h z = refl
 
 -- a key is read whole, and a byte that is not of a key ends it
@@ -153,13 +154,15 @@ inner-back (x ∷ xs) ys (and g a) =
 
 -- where a value stands that is written before a text
 unfoldable pub placedBefore : Value → List ℕ → Placed
-placedBefore (one x) ys = record { value = one x; start = length (itemText x ++ ys); params = length ys; end = length ys }
+placedBefore (one x) ys =
+    record { value = one x; parameters = []; start = length (itemText x ++ ys); paramsFrom = length ys; paramsTo = length ys }
 placedBefore (many xs) ys =
     record {
       value = many xs;
+      parameters = ([]);
       start = length (joinedBy (text " ") (map itemText xs) ++ (41 ∷ ys));
-      params = length ys;
-      end = length ys;
+      paramsFrom = length ys;
+      paramsTo = length ys;
     }
 
 -- a value is read back
@@ -170,7 +173,7 @@ value-back (many xs) ys g e = simp (append-assoc, inner-back xs ys g, params-non
 
 -- where a member stands
 unfoldable pub memberBefore : Plain → List ℕ → Member
-memberBefore m ys = record { key = m .key; placed = placedBefore (m .value) ys }
+memberBefore m ys = record { key = m .key; from = length (memberText m ++ ys); placed = placedBefore (m .value) ys }
 
 -- a member is read back
 member-back : (m : Plain) (ys : List ℕ) → GoodMember m → Ends ys → memberOf (memberText m ++ ys) ≡ parsed (memberBefore m ys) ys
