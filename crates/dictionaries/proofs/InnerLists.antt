@@ -15,7 +15,7 @@ use Rattle.ascii.proofs.Suffixes.{Suffix, suffix-trans, suffix-past, suffix-dro
 use Rattle.items.specs.Items.{Item, itemOf}
 use Rattle.items.specs.Found.{itemRange, itemIn}
 use Rattle.items.specs.declared.ItemFound.{ItemFound}
-use Rattle.items.proofs.Cuts.{item-range}
+use Rattle.items.proofs.Ranges.{item-range}
 use Rattle.items.proofs.Suffixes.{item-ends, item-shrinks}
 use Rattle.dictionaries.specs.Dictionaries.{innerTurn}
 use Rattle.dictionaries.specs.Lookup.{pointedAt, cursorAt, onward, walk, itemsFrom, listIn}

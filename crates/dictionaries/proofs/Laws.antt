@@ -1,6 +1,6 @@
 -- What the crates above use of dictionaries, here and in its parts: InnerLists (`items-item`, `items-end`, the items of a list by its cursor),
 -- ReadBack (`written-back`, what is written is read back), Written (the texts that are written, by their cases), Bytes (how many bytes the items
--- of a list take), Members (`cursor-low`, `cursor-high`). Assumes nothing.
+-- of a list, and those of a member, take). Assumes nothing.
 use mathlib.Core.Path.{_≡_, refl, ap, _∙_, sym}
 use Prim.Native.Nat.{ℕ}
 use mathlib.Core.List.{List, [], _∷_, _++_}
@@ -32,6 +32,7 @@ use Rattle.dictionaries.specs.declared.NextMember.the-variants as answer
 use Rattle.dictionaries.specs.declared.ListItem.{ListItem}
 use Rattle.dictionaries.specs.declared.ListItem.the-variants as list
 pub use Rattle.dictionaries.proofs.InnerLists.{items-item, items-end}
+pub use Rattle.dictionaries.proofs.Members.{next-member-low, next-member-high}
 use Rattle.dictionaries.proofs.Places.{found-last, found-parameters, found-ends}
 use Rattle.dictionaries.proofs.NextMembers.{next-said}
 use Rattle.dictionaries.proofs.Lookup.{fold-first, fold-none, fold-malformed}

@@ -5,6 +5,8 @@ pub mod Values
 pub mod Members
 pub mod NextMembers
 pub mod Lookup
+pub mod Bytes
+pub mod Written
 pub mod Laws
 pub mod ReadBack
 pub mod OneItemMoreExamples

@@ -18,7 +18,7 @@ use Rattle.ascii.specs.declared.Turn.{Turn}
 use Rattle.ascii.specs.declared.Turn.the-variants as turn
 use Rattle.ascii.proofs.Reading.{empty-yes, empty-no}
 use Rattle.items.specs.Items.{keyOf}
-use Rattle.items.proofs.Cuts.{Took, key-took, place-left, left-at, left-none, left-parsed, left-not, none-parsed}
+use Rattle.items.proofs.Ranges.{Took, key-took, place-left, left-at, left-none, left-parsed, left-not, none-parsed}
 use Rattle.dictionaries.specs.Dictionaries.{Placed, Member, assignedOf, memberOf, partedBy}
 use Rattle.dictionaries.specs.Lookup.{placedAt}
 use Rattle.dictionaries.specs.Members.{memberAt, partedAt, readAt, nextAt, lowMember, highMember}
@@ -180,8 +180,8 @@ member-low r m e = rw e
 pub member-high : (r : MemberRead) (m : MemberAt) → r ≡ memberRead.Found m → high (memberEnd r) ≡ m .next
 member-high r m e = rw e
 
-pub cursor-low : (r : NextMember) (m : MemberAt) → r ≡ next.Member m → lowMember r ≡ m .next
-cursor-low r m e = rw e
+pub next-member-low : (r : NextMember) (m : MemberAt) → r ≡ next.Member m → lowMember r ≡ m .next
+next-member-low r m e = rw e
 
-pub cursor-high : (r : NextMember) (m : MemberAt) → r ≡ next.Member m → highMember r ≡ m .next
-cursor-high r m e = rw e
+pub next-member-high : (r : NextMember) (m : MemberAt) → r ≡ next.Member m → highMember r ≡ m .next
+next-member-high r m e = rw e

@@ -16,7 +16,7 @@ use Rattle.ascii.specs.Reading.Parsed.{parsed, malformed}
 use Rattle.ascii.specs.Reading.Step.{more, done, fail}
 use Rattle.ascii.proofs.Suffixes.{Suffix, suffix-trans, suffix-past, suffix-drop, suffix-length, suffix-place}
 use Rattle.items.specs.Items.{keyOf}
-use Rattle.items.proofs.Cuts.{Took, key-took, part-took}
+use Rattle.items.proofs.Ranges.{Took, key-took, part-took}
 use Rattle.dictionaries.specs.Dictionaries.{Placed, Member, Plain, assignedOf, memberOf, partedOf, partedBy, dictTurn, readAll, dataOf, dictionary, plain, plains, plainly}
 use Rattle.dictionaries.specs.Lookup.{placedAt, valueIn}
 use Rattle.dictionaries.specs.Members.{membersFrom, withFirst, memberIn, nextIn, memberAt, partedAt, readAt, nextAt}

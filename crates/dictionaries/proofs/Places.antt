@@ -18,7 +18,7 @@ use Rattle.ascii.proofs.Suffixes.{Suffix, StepEnds, suffix-trans, suffix-past, 
 use Rattle.items.specs.Items.{Item, Parameter, keyOf, bareOf, paramsOf}
 use Rattle.items.specs.Items.Item.{other}
 use Rattle.items.specs.Found.{itemRange, itemIn}
-use Rattle.items.proofs.Cuts.{bare-range, other-range}
+use Rattle.items.proofs.Ranges.{bare-range, other-range}
 use Rattle.items.proofs.Suffixes.{key-ends, bare-ends, params-ends}
 use Rattle.dictionaries.specs.Dictionaries.{Value, Placed, Member, innerTurn, innerOf, closedOf, listOf, loneOf, bareKey, valueOf, assignedOf, memberOf, partedOf, dictTurn, readAll, dataOf, dictionary, plains, plainly, members}
 use Rattle.dictionaries.specs.Dictionaries.Value.{one, many}

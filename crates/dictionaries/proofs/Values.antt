@@ -23,7 +23,7 @@ use Rattle.items.specs.declared.ItemKind.the-variants as kind
 use Rattle.items.specs.declared.ItemFound.{ItemFound}
 use Rattle.items.specs.declared.ItemRead.{ItemRead}
 use Rattle.items.specs.declared.ItemRead.the-variants as item
-use Rattle.items.proofs.Cuts.{left-at, left-none, left-parsed, left-not, none-parsed, past-item}
+use Rattle.items.proofs.Ranges.{left-at, left-none, left-parsed, left-not, none-parsed, past-item, other-at, found-is}
 use Rattle.dictionaries.specs.Dictionaries.{Value, Placed, innerOf, closedOf, listOf, loneOf, bareKey}
 use Rattle.dictionaries.specs.Dictionaries.Value.{one, many}
 use Rattle.dictionaries.specs.Lookup.{valueAt, placedAt, pointedAt, cursorAt}
@@ -112,10 +112,10 @@ module _ (s : List ℕ) (i : ℕ) (h : i ≤ length s) (r : ItemRead) (is : r �
         within = rw at at high-r
 
         go : (k : Parsed Item) → item.Found fd ≡ itemFound s i k → leftAt s (read.At (fd .next)) ≡ restOf k → valueRead.Found (value.Item (record { item = fd .range; params = record { from = fd .next; to = n } })) ≡ valueFound s (after k (λ x m. closedOf (one x) (drop i s) m))
-        go = unfold after itemFound in (elim [
+        go = unfold after in (elim [
           | parsed x m ↦ λ u v.
               let d : drop (fd .next) s ≡ m = left-parsed s m (fd .next) x v in
-              let w : fd .range ≡ itemRange i x = cc in
+              let w : fd .range ≡ itemRange i x = ap (λ (z : ItemFound). z .range) (found-is s i fd x m u) in
               let y : fd .range ≡ itemRange (length s - length (drop i s)) x = w ∙ ap (λ (z : ℕ). itemRange z x) (sym (place-of s i h)) in
               (λ j. valueRead.Found (value.Item (record { item = y j; params = record { from = fd .next; to = n } }))) ∙ (closed-one s (drop i s) (fd .next) p ps n e g within x ∙ ap (λ (z : List ℕ). valueFound s (closedOf (one x) (drop i s) z)) d)
           | malformed ↦ λ u v. absurd (left-not Item s (fd .next) v)
@@ -140,8 +140,9 @@ pub ruleset lones = (item-found, item-unread, item-none)
 -- a key alone
 module _ (s : List ℕ) (i : ℕ) (h : i ≤ length s) (p : Read) (ps : leftAt s p ≡ restOf (paramsOf (drop i s))) where
   truth-at : (n : ℕ) → valueRead.Found (value.Item (record { item = record { kind = kind.Other; from = i; to = i }; params = record { from = i; to = n } })) ≡ valueRead.Found (value.Item (record { item = itemRange (length s - length (drop i s)) other; params = record { from = i; to = n } }))
-  unfolding itemRange
-  truth-at n = λ j. valueRead.Found (value.Item (record { item = itemRange (sym (place-of s i h) j) other; params = record { from = i; to = n } }))
+  truth-at n =
+      let e : record { kind = kind.Other; from = i; to = i } ≡ itemRange (length s - length (drop i s)) other = sym (other-at i) ∙ ap (λ (z : ℕ). itemRange z other) (sym (place-of s i h)) in
+      λ j. valueRead.Found (value.Item (record { item = e j; params = record { from = i; to = n } }))
 
   pub key-found : (n : ℕ) → p ≡ read.At n → high p ≤ length s → valueRead.Found (value.Item (record { item = record { kind = kind.Other; from = i; to = i }; params = record { from = i; to = n } })) ≡ valueFound s (bareKey (drop i s))
   unfolding bareKey
@@ -208,10 +209,10 @@ module _ (s : List ℕ) (c i x : ℕ) (e : drop i s ≡ past isSpace (drop c s))
       cursor-found b t = go (itemOf (drop i s)) (sym at ∙ is) (rw at at left) ∙ cursor-item g
         where
           go : (k : Parsed Item) → item.Found fd ≡ itemFound s i k → leftAt s (read.At (fd .next)) ≡ restOf k → pick b (list.Item fd) list.End ≡ pointedAt s (drop i s) k
-          go = unfold pointedAt itemFound in (elim [
+          go = unfold pointedAt in (elim [
             | parsed z m ↦ λ a d.
                 let w : drop (fd .next) s ≡ m = left-parsed s m (fd .next) z d in
-                let o : fd ≡ record { range = itemRange i z; next = length s - length m } = cc in
+                let o : fd ≡ record { range = itemRange i z; next = length s - length m } = found-is s i fd z m a in
                 let q : headOf m ≡ y = sym (v ∙ ap headOf w) in
                 rw (q, t, place-of s i h, o) refl
             | malformed ↦ λ a d. absurd (left-not Item s (fd .next) d)

@@ -17,6 +17,10 @@ pub data Value : Type 0 where
   one : Item → Value
   many : List Item → Value
 
+abbrev pub valueItems : Value → List Item
+valueItems (one x) = x ∷ []
+valueItems (many xs) = xs
+
 -- a value and its parameters, repeated keys kept, as they stand in a text; a place is said by how many bytes are left there: where an item or
 -- the first item of a list may start, and where the member's parameters start and end
 pub record Placed : Type 0 where

@@ -1,4 +1,5 @@
--- What the crates above use of items. Assumes nothing.
+-- What the crates above use of items, here and in its parts: Bytes (how many bytes an item takes) and ReadBack (a key, a token, a string that are
+-- written are read back); dictionaries, the rest of RFC 8941's grammar, uses Ranges and Suffixes too. Assumes nothing.
 use mathlib.Core.Path.{_≡_}
 use Prim.Native.Nat.{ℕ}
 use mathlib.Core.List.{List}

@@ -1,7 +1,7 @@
 -- Spaces are skipped; an item counts where a space or ")" follows it.
 use borrow.Author.Needs.{needs}
 use Rattle.ascii.proofs.Reading.{lows, highs}
-use Rattle.items.proofs.Cuts.{found-low, found-high}
+use Rattle.items.proofs.Ranges.{found-low, found-high}
 use Rattle.dictionaries.proofs.InnerLists.{items-said}
 use Rattle.dictionaries.proofs.Values.{cursors}
 use Rattle.dictionaries.proofs.item_at.Statement.{statement}

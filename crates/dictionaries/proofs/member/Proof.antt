@@ -2,7 +2,7 @@
 use Prim.Native.Nat.{_-_, _^_}
 use borrow.Author.Needs.{needs}
 use Rattle.ascii.proofs.Reading.{lows}
-use Rattle.dictionaries.proofs.Members.{cursor-low}
+use Rattle.dictionaries.proofs.Members.{next-member-low}
 use Rattle.dictionaries.proofs.Lookup.{SoFar, looks, look-end, look-malformed, last-is}
 use Rattle.dictionaries.proofs.member.Statement.{statement}
 use Rattle.dictionaries.proofs.member.Tie as tie
@@ -23,7 +23,7 @@ member-spec =
     (λ c κs. search needs)
     (λ c. search needs)
     (λ c κs. search needs)
-    (λ c. omega (lows, cursor-low))
+    (λ c. omega (lows, next-member-low))
     (λ c. search looks)
     (λ c. search needs)
     (λ c. search (last-is, look-end))

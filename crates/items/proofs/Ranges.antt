@@ -321,3 +321,12 @@ item-range s i x m h e = go (bareOf (drop i s)) refl e
 pub other-range : (s : List ℕ) (i : ℕ) → itemIn s (itemRange i other) ≡ other
 unfolding itemIn itemRange itemBy
 other-range s i = refl
+
+pub other-at : (i : ℕ) → itemRange i other ≡ record { kind = kind.Other; from = i; to = i }
+unfolding itemRange
+other-at i = refl
+
+-- an answer's range and place, by the reading
+pub found-is : (s : List ℕ) (i : ℕ) (f : ItemFound) (x : Item) (m : List ℕ) → item.Found f ≡ itemFound s i (parsed x m) → f ≡ record { range = itemRange i x; next = length s - length m }
+unfolding itemFound
+found-is s i f x m e = cc
