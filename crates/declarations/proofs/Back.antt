@@ -16,9 +16,10 @@ use Rattle.items.specs.Items.{Item}
 use Rattle.items.specs.Items.Item.{token, string, other}
 use Rattle.dictionaries.specs.Dictionaries.{Value, Plain, members}
 use Rattle.dictionaries.specs.Dictionaries.Value.{one, many}
-use Rattle.dictionaries.specs.Lookup.{lastValueIn, isSome}
+use Rattle.dictionaries.specs.Lookup.{lastValueIn}
 use Rattle.dictionaries.specs.Written.{All}
 use Rattle.dictionaries.specs.Written.All.{empty, and}
+use Rattle.dictionaries.proofs.Laws.{some-is}
 use Rattle.declarations.specs.Allowlists.{Allowlist, Meaning, tokenMeaning, sourceMeaning, meaningOf, hasStar, hasSelf, withSource, sourcesOf, allowlist, allowlistOf}
 use Rattle.declarations.specs.Allowlists.Allowlist.{all, listed}
 use Rattle.declarations.specs.Allowlists.Meaning.{star, self, source, nothing}
@@ -70,8 +71,8 @@ module _ (s : List ℕ) (n : ℕ) (ms : List Plain) (e : members s ≡ some ms) 
   declares-none f = rw (e, f)
 
 pub members-good : (s : List ℕ) (ms : List Plain) → members s ≡ some ms → isMalformed s ≡ false
-unfolding isMalformed isSome
-members-good s ms e = rw e
+unfolding isMalformed
+members-good s ms e = rw (e, some-is)
 
 -- the expressions of a declared list are such as a text can say
 source-good : (x : Item) (y : SourceExpression) → meaningOf x ≡ source y → GoodExpression y

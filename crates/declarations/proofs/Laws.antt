@@ -24,7 +24,7 @@ use Rattle.dictionaries.specs.Lookup.{itemsFrom, cursorAt, lastFound, lastValue
 use Rattle.dictionaries.specs.OneItemMore.{OneItemMore}
 use Rattle.dictionaries.specs.declared.MemberFound.{MemberFound}
 use Rattle.dictionaries.specs.declared.MemberFound.the-variants as found
-use Rattle.dictionaries.proofs.Laws.{empty-members, last-of-empty, last-of-none, last-malformed, last-absent, last-item, last-list, items-item, items-end, Grown, LastGrown, last-grown}
+use Rattle.dictionaries.proofs.Laws.{some-is, empty-members, last-of-empty, last-of-none, last-malformed, last-absent, last-item, last-list, items-item, items-end, Grown, LastGrown, last-grown}
 use Rattle.dictionaries.proofs.Laws.Grown.{same, grown}
 use Rattle.declarations.specs.Allowlists.{Allowlist, Meaning, meaningOf, isStar, isSelf, withSource, hasStar, hasSelf, sourcesOf, allowlist, allowlistOf, anyAdmits, listAdmits, allows}
 use Rattle.declarations.specs.Allowlists.Allowlist.{all, listed}
@@ -141,7 +141,7 @@ empty-declares n = rw (empty-members, last-of-empty (nameOf n))
 
 pub empty-good : isMalformed [] ≡ false
 unfolding isMalformed
-empty-good = rw empty-members (unfold isSome in refl)
+empty-good = rw (empty-members, some-is)
 
 -- a malformed header declares nothing
 pub malformed-declares : (s : List ℕ) (n : ℕ) → isMalformed s ≡ true → declares s n ≡ none
@@ -149,7 +149,7 @@ unfolding isMalformed declares
 malformed-declares s n e = go (members s) e
   where
     go : (d : Option (List Plain)) → not (isSome d) ≡ true → lastDeclares (lastValueIn (nameOf n) d) ≡ none
-    go = unfold isSome lastDeclares in (elim [ some ms ↦ λ f. clash cc | none ↦ λ f. rw (last-of-none (nameOf n)) ])
+    go = unfold lastDeclares in (elim [ some ms ↦ λ f. (let z : false ≡ true = rw (some-is ms) at f in clash cc) | none ↦ λ f. rw (last-of-none (nameOf n)) ])
 
 -- what one item admits, and a list by its items; `mine`: the origin is the document's own
 itemAdmits : Meaning → Bool → Origin → Bool
@@ -243,5 +243,5 @@ more-admits own o (both {l = l} w) e = let f : allows l own o ≡ true = cc in a
 
 -- and neither header is malformed
 pub item-good : (s t : List ℕ) → OneItemMore s t → (isMalformed s ≡ false) × (isMalformed t ≡ false)
-unfolding isMalformed isSome
-item-good s t h = (rw (h .first), rw (h .second))
+unfolding isMalformed
+item-good s t h = (rw (h .first, some-is), rw (h .second, some-is))

@@ -15,6 +15,7 @@ use Rattle.items.specs.declared.ItemFound.{ItemFound}
 use Rattle.items.specs.declared.ItemRange.{ItemRange}
 use Rattle.dictionaries.specs.Lookup.{itemsFrom, IsPointed}
 use Rattle.dictionaries.specs.Written.{itemText}
+use Rattle.dictionaries.proofs.Written.{string-text}
 use Rattle.dictionaries.specs.declared.ListItem.{ListItem}
 use Rattle.dictionaries.specs.declared.ListItem.the-variants as list
 use Rattle.dictionaries.proofs.Laws.{items-item, items-end}
@@ -50,10 +51,9 @@ texts-new before e h = rw h
 
 -- the parts of a string, one after the other
 pub string-parts : (l : List ℕ) (at : ℕ) (any : Bool) (e : SourceExpression) (m n o z : List ℕ) (a c d q : ℕ) → Adding l at (pick any (text " ") []) m a → Adding m a (text "\"") n c → Adding n c (normalForm e) o d → Adding o d (text "\"") z q → Spelling (text " ") l at any (sourceText e ∷ []) z (record { to = q; any = true })
-unfolding itemText
 string-parts l at any e m n o z a c d q u v w y =
-    spelling-one (text " ") l at any m z (text "\"" ++ (normalForm e ++ text "\"")) a q u
-    (adding-on m n z a c q (text "\"") (normalForm e ++ text "\"") v (adding-on n o z c d q (normalForm e) (text "\"") w y))
+    rw (string-text (normalForm e)) (spelling-one (text " ") l at any m z (text "\"" ++ (normalForm e ++ text "\"")) a q u
+    (adding-on m n z a c q (text "\"") (normalForm e ++ text "\"") v (adding-on n o z c d q (normalForm e) (text "\"") w y)))
 
 -- an item's expressions, and then those of the others
 texts-more : (before : List SourceExpression) (m : Meaning) (es : List SourceExpression) → sourceTexts before (withSource m es) ≡ sourceTexts before (withSource m []) ++ sourceTexts (map normal (withSource m []) ++ before) es
