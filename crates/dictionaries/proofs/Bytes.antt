@@ -12,8 +12,8 @@ use Rattle.ascii.specs.Bytes.{pick, isSpace}
 use Rattle.ascii.specs.Reading.{Parsed, Step, headOf, skip, past, next, after, mapped, going, adding, onStep, turns}
 use Rattle.ascii.specs.Reading.Parsed.{parsed, malformed}
 use Rattle.ascii.specs.Reading.Step.{more, done, fail}
-use Rattle.ascii.proofs.Suffixes.{suffix-length, suffix-past, suffix-drop}
-use Rattle.items.specs.Items.{Item, Parameter, keyOf, bareOf, paramsOf, itemOf}
+use Rattle.ascii.proofs.Suffixes.{suffix-length, suffix-past}
+use Rattle.items.specs.Items.{Item, keyOf, bareOf, paramsOf, itemOf}
 use Rattle.items.specs.Items.Item.{other}
 use Rattle.items.proofs.Suffixes.{key-ends, params-ends}
 use Rattle.items.proofs.Bytes.{itemBytes, other-bytes, bare-bytes, item-bytes}

@@ -6,7 +6,7 @@ use Prim.Native.Nat.{ℕ}
 use mathlib.Core.List.{List, [], _∷_, _++_}
 use mathlib.Core.Bool.{Bool, true, false}
 use mathlib.Core.Option.{Option, some, none}
-use lib.ListN.{length, drop}
+use lib.ListN.{drop}
 use Rattle.ascii.specs.Bytes.{pick}
 use Rattle.ascii.specs.Texts.{sameBytes}
 use Rattle.ascii.specs.Reading.{Parsed, isEmpty, skip, past}
@@ -19,11 +19,13 @@ use Rattle.items.specs.Found.{itemIn}
 use Rattle.items.specs.declared.ItemFound.{ItemFound}
 use Rattle.dictionaries.specs.Dictionaries.{plains, dataOf, dictionary, Member, members, Plain, plainly, readAll, Value}
 use Rattle.dictionaries.specs.Dictionaries.Value.{one, many}
-use Rattle.dictionaries.specs.Lookup.{into, later, lastValueIn, lastParametersIn, lastFound, cursorAt, itemsFrom, parametersIn, foundIn, foundParametersIn, isSome, lowNext, highNext}
+use Rattle.dictionaries.specs.Lookup.{into, later, lastValueIn, lastParametersIn, lastFound, cursorAt, itemsFrom, valueIn, parametersIn, foundIn, foundParametersIn, isSome, lowNext, highNext}
 use Rattle.dictionaries.specs.Members.{membersFrom, withFirst, memberIn, nextIn, nextAt, foldMembers}
 use Rattle.dictionaries.specs.OneItemMore.{OneItemMore}
 use Rattle.dictionaries.specs.declared.MemberItem.{MemberItem}
 use Rattle.dictionaries.specs.declared.MemberList.{MemberList}
+use Rattle.dictionaries.specs.declared.MemberValue.{MemberValue}
+use Rattle.dictionaries.specs.declared.MemberValue.the-variants as value
 use Rattle.dictionaries.specs.declared.MemberAt.{MemberAt}
 use Rattle.dictionaries.specs.declared.MemberFound.{MemberFound}
 use Rattle.dictionaries.specs.declared.MemberFound.the-variants as found
@@ -35,7 +37,7 @@ pub use Rattle.dictionaries.proofs.InnerLists.{items-item, items-end}
 pub use Rattle.dictionaries.proofs.Members.{next-member-low, next-member-high}
 use Rattle.dictionaries.proofs.Places.{found-last, found-parameters, found-ends}
 use Rattle.dictionaries.proofs.NextMembers.{next-said}
-use Rattle.dictionaries.proofs.Lookup.{fold-first, fold-none, fold-malformed}
+pub use Rattle.dictionaries.proofs.Lookup.{fold-first, fold-none, fold-malformed}
 
 -- the empty text is a dictionary with no members
 pub empty-members : members [] ≡ some []
@@ -56,18 +58,32 @@ pub last-fold : (key : List ℕ) (ms : List Plain) → lastValueIn key (some ms)
 unfolding lastValueIn
 last-fold key ms = refl
 
+-- and any fold
+pub into-none : {A B : Type 0} (k : B → A → B) (b : B) → into k b [] ≡ b
+unfolding into
+into-none k b = refl
+
+pub into-first : {A B : Type 0} (k : B → A → B) (b : B) (x : A) (xs : List A) → into k b (x ∷ xs) ≡ into k (k b x) xs
+unfolding into
+into-first k b x xs = refl
+
 module _ (key : List ℕ) (v : Option Value) where
+  pub later-same : (m : Plain) → sameBytes (m .key) key ≡ true → later key v m ≡ some (m .value)
+  unfolding later pick
+  later-same m e = rw e
+
+  pub later-other : (m : Plain) → sameBytes (m .key) key ≡ false → later key v m ≡ v
+  unfolding later pick
+  later-other m e = rw e
+
   pub fold-nil : into (later key) v [] ≡ v
-  unfolding into
-  fold-nil = refl
+  fold-nil = into-none (later key) v
 
   pub fold-same : (m : Plain) (ms : List Plain) → sameBytes (m .key) key ≡ true → into (later key) v (m ∷ ms) ≡ into (later key) (some (m .value)) ms
-  unfolding into later pick
-  fold-same m ms e = rw e
+  fold-same m ms e = into-first (later key) v m ms ∙ ap (λ (z : Option Value). into (later key) z ms) (later-same m e)
 
   pub fold-other : (m : Plain) (ms : List Plain) → sameBytes (m .key) key ≡ false → into (later key) v (m ∷ ms) ≡ into (later key) v ms
-  unfolding into later pick
-  fold-other m ms e = rw e
+  fold-other m ms e = into-first (later key) v m ms ∙ ap (λ (z : Option Value). into (later key) z ms) (later-other m e)
 
 -- whether there is something
 pub some-is : {A : Type 0} (a : A) → isSome (some a) ≡ true
@@ -77,6 +93,16 @@ some-is a = refl
 pub none-is : (A : Type 0) → isSome {A = A} none ≡ false
 unfolding isSome
 none-is A = refl
+
+-- what a value with its places says, by its cases
+module _ (s : List ℕ) (v : MemberValue) where
+  pub value-item : (m : MemberItem) → v ≡ value.Item m → valueIn s v ≡ one (itemIn s (m .item))
+  unfolding valueIn
+  value-item m e = rw e
+
+  pub value-list : (m : MemberList) → v ≡ value.List m → valueIn s v ≡ many (itemsFrom s (m .first))
+  unfolding valueIn
+  value-list m e = rw e
 
 -- the last member of a key: what `member` answers is the data's last value of that key
 module _ (s key : List ℕ) (r : MemberFound) (is : r ≡ lastFound s key) where
@@ -152,7 +178,7 @@ module _ (s : List ℕ) (c : ℕ) (r : NextMember) (is : r ≡ nextAt s c) where
     pub fold-members-malformed : r ≡ answer.NotADictionary → none ≡ R
     fold-members-malformed e = sym (fold-malformed k b) ∙ (rw (from-malformed e) at so-far)
 
--- a fold over no members, and from the start, by the members
+-- a fold over the members of a dictionary
 pub fold-members : {B : Type 0} (k : B → Plain → B) (b : B) (ms : List Plain) → foldMembers k b (some ms) ≡ some (into k b ms)
 unfolding foldMembers
 fold-members k b ms = refl

@@ -4,12 +4,12 @@ use Prim.Native.Nat.{ℕ}
 use mathlib.Core.List.{List, [], _∷_}
 use mathlib.Core.Bool.{Bool, true, false}
 use mathlib.Core.Option.{Option, some, none}
-use lib.ListN.{length, drop}
+use lib.ListN.{drop}
 use Rattle.ascii.proofs.Clash.{clash}
 use Rattle.ascii.specs.Bytes.{pick}
 use Rattle.ascii.specs.Texts.{sameBytes, partIn}
 use Rattle.dictionaries.specs.Dictionaries.{Value, Member, Plain, dictionary, members}
-use Rattle.dictionaries.specs.Lookup.{into, isSome, latest, lastIn, later, lastValueIn, placedAt, foundOf, answerOf, lastFound, foundIn, foundParametersIn, lastParametersIn, IsLast}
+use Rattle.dictionaries.specs.Lookup.{into, isSome, latest, lastIn, lastValueIn, placedAt, foundOf, answerOf, lastFound, foundIn, foundParametersIn, IsLast}
 use Rattle.dictionaries.specs.Members.{withFirst, foldMembers, nextAt}
 use Rattle.dictionaries.specs.Steps.{newerOf, newest, answered}
 use Rattle.dictionaries.specs.declared.MemberValue.{MemberValue}

@@ -1,7 +1,7 @@
 -- A member and what stands past it, by their places. Assumes nothing.
 use mathlib.Core.Path.{_≡_, refl, ap, _∙_, sym}
-use Prim.Native.Nat.{ℕ, _+_, _-_, _≤_, _<_, min}
-use mathlib.Core.List.{List, [], _∷_}
+use Prim.Native.Nat.{ℕ, _+_, _-_, _≤_, _<_}
+use mathlib.Core.List.{List}
 use mathlib.Core.Option.{Option}
 use native.Mathlib.Omega.{arith}
 use lib.ListN.{length, drop, length-drop, length-append}
@@ -11,7 +11,6 @@ use Rattle.ascii.specs.Reading.{Parsed, Step, past, skip, after, mapped}
 use Rattle.ascii.specs.Reading.Parsed.{parsed, malformed}
 use Rattle.ascii.specs.Reading.Step.{more, done, fail}
 use Rattle.ascii.specs.Places.{restOf, leftAt, low, high, wentOf, wentAt, highTurn}
-use Rattle.ascii.specs.Places.Went.{goes, ends, fails}
 use Rattle.ascii.specs.declared.Read.{Read}
 use Rattle.ascii.specs.declared.Read.the-variants as read
 use Rattle.ascii.specs.declared.Turn.{Turn}

@@ -4,7 +4,7 @@ use Prim.Native.Nat.{ℕ}
 use mathlib.Core.List.{List, [], _∷_, _++_, map}
 use Rattle.ascii.specs.Literals.{text}
 use Rattle.items.specs.Items.{Item}
-use Rattle.items.specs.Items.Item.{token, string, other}
+use Rattle.items.specs.Items.Item.{token, string}
 use Rattle.dictionaries.specs.Dictionaries.{Plain}
 use Rattle.dictionaries.specs.Dictionaries.Value.{one, many}
 use Rattle.dictionaries.specs.Written.{eachAfter, joinedBy, itemText, valueText, memberText, written}

@@ -4,7 +4,6 @@ use mathlib.Core.Path.{_≡_}
 use Prim.Native.Nat.{ℕ}
 use mathlib.Core.List.{List}
 use Rattle.ascii.specs.Texts.{partOf}
-use Rattle.items.specs.Items.{Item}
 use Rattle.items.specs.Items.Item.{token, string, other}
 use Rattle.items.specs.Found.{itemBy, itemIn}
 use Rattle.items.specs.declared.ItemKind.the-variants as kind
