@@ -16,8 +16,8 @@ use Rattle.items.specs.Items.{Item}
 use Rattle.dictionaries.specs.Dictionaries.{Value, Plain, members}
 use Rattle.dictionaries.specs.Dictionaries.Value.{one, many}
 use Rattle.dictionaries.specs.Lookup.{lastValueIn, isSome}
-use Rattle.dictionaries.specs.Added.{OneItemMore}
-use Rattle.dictionaries.proofs.Laws.{empty-members, last-of-empty, last-of-none, Grown, LastGrown, last-grown}
+use Rattle.dictionaries.specs.OneItemMore.{OneItemMore}
+use Rattle.dictionaries.proofs.Laws.{some-is, empty-members, last-of-empty, last-of-none, Grown, LastGrown, last-grown}
 use Rattle.dictionaries.proofs.Laws.Grown.{same, grown}
 use Rattle.allowlists.specs.Allowlists.{Allowlist, Meaning, allowlistOf, listAdmits, someAdmits}
 use Rattle.allowlists.specs.Allowlists.Allowlist.{all, listed}
@@ -73,7 +73,7 @@ malformed-is s b h = rw h
 
 pub members-good : (s : List ℕ) (ms : List Plain) → members s ≡ some ms → isMalformed s ≡ false
 unfolding isMalformed
-members-good s ms e = rw e (unfold isSome in refl)
+members-good s ms e = rw (e, some-is ms)
 
 -- the empty header is a dictionary that declares nothing
 pub empty-declares : (n : ℕ) → declares [] n ≡ none

@@ -11,8 +11,8 @@ use Rattle.ascii.proofs.Clash.{clash}
 use Rattle.origins.specs.Expressions.{SourceExpression, expressionOf}
 use Rattle.items.specs.Items.{Item}
 use Rattle.items.specs.Items.Item.{token, string, other}
-use Rattle.items.specs.Found.{itemAs}
-use Rattle.items.proofs.Laws.{as-token, as-string, as-other}
+use Rattle.items.specs.Found.{itemIn}
+use Rattle.items.proofs.Laws.{token-in, string-in, other-in}
 use Rattle.items.specs.declared.ItemKind.{ItemKind}
 use Rattle.items.specs.declared.ItemKind.the-variants as kind
 use Rattle.items.specs.declared.ItemRange.{ItemRange}
@@ -41,17 +41,17 @@ module _ (t : List ℕ) (a : Bool) (u : a ≡ sameBytes t (text "*")) where
 
 -- an item by its kind
 module _ (s : List ℕ) (p : ItemRange) (t : List ℕ) (m : t ≡ partOf s (p .from) (p .to)) (r : MeaningRange) where
-  pub item-token : r ≡ meaningAs (tokenMeaning t) → p .kind ≡ kind.Token → r ≡ meaningAs (itemMeaning (itemAs s p))
+  pub item-token : r ≡ meaningAs (tokenMeaning t) → p .kind ≡ kind.Token → r ≡ meaningAs (itemMeaning (itemIn s p))
   unfolding itemMeaning
-  item-token h k = rw (as-token s p k, ← m) h
+  item-token h k = rw (token-in s p k, ← m) h
 
-  pub item-string : r ≡ meaningAs (sourceMeaning (expressionOf t)) → p .kind ≡ kind.String → r ≡ meaningAs (itemMeaning (itemAs s p))
+  pub item-string : r ≡ meaningAs (sourceMeaning (expressionOf t)) → p .kind ≡ kind.String → r ≡ meaningAs (itemMeaning (itemIn s p))
   unfolding itemMeaning
-  item-string h k = rw (as-string s p k, ← m) h
+  item-string h k = rw (string-in s p k, ← m) h
 
-pub item-other : (s : List ℕ) (p : ItemRange) → p .kind ≡ kind.Other → range.Nothing ≡ meaningAs (itemMeaning (itemAs s p))
+pub item-other : (s : List ℕ) (p : ItemRange) → p .kind ≡ kind.Other → range.Nothing ≡ meaningAs (itemMeaning (itemIn s p))
 unfolding itemMeaning
-item-other s p k = rw (as-other s p k)
+item-other s p k = rw (other-in s p k)
 
 -- no token means an expression or the src-origin
 token-means : (t : List ℕ) (P : Meaning → Type 0) → P star → P self → P nothing → P (tokenMeaning t)
@@ -85,14 +85,14 @@ item-no-src (token t) e = token-means t (λ m. m ≡ src → ⊥) (λ f. clash c
 item-no-src (string t) e = source-no-src (expressionOf t) e
 item-no-src other e = clash cc
 
-kind-source : (s : List ℕ) (p : ItemRange) (y : SourceExpression) (k : ItemKind) → p .kind ≡ k → itemMeaning (itemAs s p) ≡ source y → expressionOf (partOf s (p .from) (p .to)) ≡ some y
+kind-source : (s : List ℕ) (p : ItemRange) (y : SourceExpression) (k : ItemKind) → p .kind ≡ k → itemMeaning (itemIn s p) ≡ source y → expressionOf (partOf s (p .from) (p .to)) ≡ some y
 unfolding itemMeaning
-kind-source s p y kind.Token k e = absurd (token-no-source (partOf s (p .from) (p .to)) y (rw (as-token s p k) at e))
-kind-source s p y kind.String k e = source-is (expressionOf (partOf s (p .from) (p .to))) y (rw (as-string s p k) at e)
+kind-source s p y kind.Token k e = absurd (token-no-source (partOf s (p .from) (p .to)) y (rw (token-in s p k) at e))
+kind-source s p y kind.String k e = source-is (expressionOf (partOf s (p .from) (p .to))) y (rw (string-in s p k) at e)
 kind-source s p y kind.Other k e =
-    let f : nothing ≡ source y = rw (as-other s p k) at e in
+    let f : nothing ≡ source y = rw (other-in s p k) at e in
     clash cc
 
 -- what `meaning` answers, beside the item's text, says what the item means
-pub item-in : (s : List ℕ) (p : ItemRange) (x : List ℕ) (r : MeaningRange) → x ≡ partOf s (p .from) (p .to) → r ≡ meaningAs (itemMeaning (itemAs s p)) → meaningIn x r ≡ itemMeaning (itemAs s p)
-item-in s p x r m h = rw h (meaning-in x (itemMeaning (itemAs s p)) (λ y e. rw m (kind-source s p y (p .kind) refl e)))
+pub item-in : (s : List ℕ) (p : ItemRange) (x : List ℕ) (r : MeaningRange) → x ≡ partOf s (p .from) (p .to) → r ≡ meaningAs (itemMeaning (itemIn s p)) → meaningIn x r ≡ itemMeaning (itemIn s p)
+item-in s p x r m h = rw h (meaning-in x (itemMeaning (itemIn s p)) (λ y e. rw m (kind-source s p y (p .kind) refl e)))

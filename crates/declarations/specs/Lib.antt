@@ -1,1 +1,3 @@
 pub mod Declarations
+pub mod Computing
+pub mod Examples

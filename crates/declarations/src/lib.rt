@@ -1,6 +1,6 @@
 // What the items of a header mean in an allowlist.
 ghost use mathlib.Core.Path.{_≡_};
-ghost use Rattle.items.specs.Found.{itemAs};
+ghost use Rattle.items.specs.Found.{itemIn};
 ghost use Rattle.allowlists.specs.Answers.{meaningAs};
 ghost use Rattle.declarations.specs.Declarations.{tokenMeaning, itemMeaning};
 use allowlists::MeaningRange;
@@ -22,7 +22,7 @@ fn token_meaning(t: &[u8]) -> MeaningRange
 
 // What an item of a header means; an expression's host is a range of the item's text.
 pub fn meaning(s: &[u8], item: ItemRange) -> MeaningRange
-    ensures { λ r. ⌜ r ≡ meaningAs (itemMeaning (itemAs (now (s .entry)) item)) ⌝ }
+    ensures { λ r. ⌜ r ≡ meaningAs (itemMeaning (itemIn (now (s .entry)) item)) ⌝ }
 {
     let kind = item.kind;
     let t = ascii::part(s, item.from, item.to);

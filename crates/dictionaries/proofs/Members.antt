@@ -1,215 +1,186 @@
--- Members and the last one of a key. Assumes nothing.
+-- A member and what stands past it, by their places. Assumes nothing.
 use mathlib.Core.Path.{_≡_, refl, ap, _∙_, sym}
 use Prim.Native.Nat.{ℕ, _+_, _-_, _≤_, _<_}
-use mathlib.Core.List.{List, [], _∷_}
-use mathlib.Core.Option.{Option, some, none}
-use mathlib.Core.Bool.{Bool, true, false}
+use mathlib.Core.List.{List}
+use mathlib.Core.Option.{Option}
 use native.Mathlib.Omega.{arith}
 use lib.ListN.{length, drop, length-drop, length-append}
-use lib.Dec.{eqb}
 use Rattle.ascii.proofs.Clash.{clash}
-use Rattle.ascii.specs.Bytes.{pick}
-use Rattle.ascii.specs.Texts.{partOf, sameBytes}
-use Rattle.ascii.specs.Reading.{Parsed, headOf, isEmpty, past, skip, next, after, mapped, going, turnsOf}
+use Rattle.ascii.specs.Bytes.{pick, isSpace}
+use Rattle.ascii.specs.Reading.{Parsed, Step, past, skip, after, mapped}
 use Rattle.ascii.specs.Reading.Parsed.{parsed, malformed}
 use Rattle.ascii.specs.Reading.Step.{more, done, fail}
-use Rattle.ascii.specs.Places.{restOf, leftAt, low, high, wentOf, wentAt, lowMore, lowDone}
+use Rattle.ascii.specs.Places.{restOf, leftAt, low, high, wentOf, wentAt, highTurn}
 use Rattle.ascii.specs.declared.Read.{Read}
 use Rattle.ascii.specs.declared.Read.the-variants as read
 use Rattle.ascii.specs.declared.Turn.{Turn}
 use Rattle.ascii.specs.declared.Turn.the-variants as turn
-use Rattle.ascii.proofs.Reading.{empty-yes, empty-no, went-after, went-malformed}
-use Rattle.items.specs.Items.{isSpace, keyOf}
-use Rattle.items.proofs.Cuts.{Took, key-took, left-at, left-none, part-took}
-use Rattle.dictionaries.specs.Dictionaries.{Value, Placed, Member, isBlank, assignedOf, memberOf, partedOf, partedBy, dictTurn, readAll, dataOf, dictionary}
-use Rattle.dictionaries.specs.Dictionaries.Value.{one, many}
-use Rattle.dictionaries.specs.Lookup.{into, latest, lastIn, answerOf, lastFound, valueAt, placedAt, isSome}
-use Rattle.dictionaries.specs.Steps.{newest, oneOf, foldParsed, answered, valueFound, memberValue, KeyIs, endOf}
-use Rattle.dictionaries.specs.declared.MemberFound.{MemberFound}
-use Rattle.dictionaries.specs.declared.MemberFound.the-variants as found
-use Rattle.dictionaries.specs.declared.MemberItem.{MemberItem}
-use Rattle.dictionaries.specs.declared.MemberList.{MemberList}
-use Rattle.dictionaries.proofs.Folds.{Adds}
-use Rattle.dictionaries.proofs.Values.{left-parsed, left-not, none-parsed, parted-any}
+use Rattle.ascii.proofs.Reading.{empty-yes, empty-no}
+use Rattle.items.specs.Items.{keyOf}
+use Rattle.items.proofs.Ranges.{Took, key-took, place-left, left-at, left-none, left-parsed, left-not, none-parsed}
+use Rattle.dictionaries.specs.Dictionaries.{Placed, Member, assignedOf, memberOf, partedBy}
+use Rattle.dictionaries.specs.Lookup.{placedAt}
+use Rattle.dictionaries.specs.Members.{memberAt, partedAt, readAt, nextAt, lowMember, highMember}
+use Rattle.dictionaries.specs.Steps.{endOf, valueEnd, valueFound, memberEnd, memberFound}
+use Rattle.dictionaries.specs.declared.MemberValue.{MemberValue}
+use Rattle.dictionaries.specs.declared.MemberAt.{MemberAt}
+use Rattle.dictionaries.specs.declared.NextMember.{NextMember}
+use Rattle.dictionaries.specs.declared.NextMember.the-variants as next
+use Rattle.dictionaries.specs.declared.ValueRead.{ValueRead}
+use Rattle.dictionaries.specs.declared.ValueRead.the-variants as valueRead
+use Rattle.dictionaries.specs.declared.MemberRead.{MemberRead}
+use Rattle.dictionaries.specs.declared.MemberRead.the-variants as memberRead
+
+-- the place past a value, for `search` and for `omega`
+module _ (r : ValueRead) (v : MemberValue) (at : r ≡ valueRead.Found v) where
+  pub value-left : (s : List ℕ) (n : ℕ) (w : Option (List ℕ)) → n ≡ endOf v → leftAt s (valueEnd r) ≡ w → leftAt s (read.At n) ≡ w
+  value-left s n w e l = rw e (rw at at l)
+
+  pub value-low : low (valueEnd r) ≡ endOf v
+  value-low = rw at
+
+  pub value-high : high (valueEnd r) ≡ endOf v
+  value-high = rw at
+
+pub value-none : (s : List ℕ) (r : ValueRead) (w : Option (List ℕ)) → r ≡ valueRead.Malformed → leftAt s (valueEnd r) ≡ w → leftAt s read.Malformed ≡ w
+value-none s r w e l = rw e at l
 
 -- a member: its key, and the value past it
 module _ (s : List ℕ) (i : ℕ) (r : Read) (is : leftAt s r ≡ restOf (keyOf (drop i s))) where
-  module _ (q : ℕ) (at : r ≡ read.At q) where
-    pub member-value : (v : MemberFound) → v ≡ valueFound s (assignedOf (drop q s)) → v ≡ memberValue s (memberOf (drop i s))
+  pub member-no-key : r ≡ read.Malformed → memberRead.Malformed ≡ memberFound s (memberOf (drop i s))
+  unfolding memberOf
+  member-no-key e = go (keyOf (drop i s)) (left-none s r _ e is)
+    where
+      go : (g : Parsed (List ℕ)) → leftAt s read.Malformed ≡ restOf g → memberRead.Malformed ≡ memberFound s (after g (λ k m. mapped (λ p. record { key = k; from = length (drop i s); placed = p }) (assignedOf m)))
+      go = unfold after memberFound in (elim [ parsed k m ↦ λ u. absurd (none-parsed s m k u) | malformed ↦ λ u. refl ])
+
+  module _ (q : ℕ) (at : r ≡ read.At q) (w : ValueRead) (wl : leftAt s (valueEnd w) ≡ restOf (assignedOf (drop q s))) where
+    pub member-unread : w ≡ valueRead.Malformed → memberRead.Malformed ≡ memberFound s (memberOf (drop i s))
     unfolding memberOf
-    member-value v e = go (keyOf (drop i s)) (left-at s r q _ at is)
+    member-unread e = go (keyOf (drop i s)) (left-at s r q _ at is)
       where
-        same : (k : List ℕ) (g : Parsed Placed) → valueFound s g ≡ memberValue s (mapped (λ p. record { key = k; placed = p }) g)
-        same = unfold valueFound memberValue mapped in (λ k. elim [ parsed p l ↦ refl | malformed ↦ refl ])
+        none : (k : List ℕ) (g : Parsed Placed) → leftAt s read.Malformed ≡ restOf g → memberRead.Malformed ≡ memberFound s (mapped (λ p. record { key = k; from = length (drop i s); placed = p }) g)
+        none = unfold mapped memberFound in (λ k. elim [ parsed p o ↦ λ u. absurd (none-parsed s o p u) | malformed ↦ λ u. refl ])
 
-        go : (g : Parsed (List ℕ)) → leftAt s (read.At q) ≡ restOf g → v ≡ memberValue s (after g (λ k m. mapped (λ p. record { key = k; placed = p }) (assignedOf m)))
-        go = unfold after in (elim [ parsed k m ↦ λ u. e ∙ (ap (λ (l : List ℕ). valueFound s (assignedOf l)) (left-parsed s m q k u) ∙ same k (assignedOf m)) | malformed ↦ λ u. absurd (left-not (List ℕ) s q u) ])
+        go : (g : Parsed (List ℕ)) → leftAt s (read.At q) ≡ restOf g → memberRead.Malformed ≡ memberFound s (after g (λ k m. mapped (λ p. record { key = k; from = length (drop i s); placed = p }) (assignedOf m)))
+        go = unfold after in (elim [
+          | parsed k m ↦ λ u. none k (assignedOf m) (rw (left-parsed s m q k u) at (value-none s w _ e wl))
+          | malformed ↦ λ u. absurd (left-not (List ℕ) s q u)
+        ])
 
-    pub member-key : i ≤ length s → high r ≤ length s → KeyIs s i q (memberOf (drop i s))
+    pub member-found : i ≤ length s → high r ≤ length s → w ≡ valueFound s (assignedOf (drop q s)) → high (valueEnd w) ≤ length s → (v : MemberValue) (n : ℕ) → w ≡ valueRead.Found v → n ≡ endOf v → memberRead.Found (record { key = record { from = i; to = q }; value = v; next = n }) ≡ memberFound s (memberOf (drop i s))
     unfolding memberOf
-    member-key h g = go (keyOf (drop i s)) (left-at s r q _ at is) (key-took (drop i s))
+    member-found h hr wi hw v n e z = go (keyOf (drop i s)) (left-at s r q _ at is) (key-took (drop i s))
       where
-        named : (k : List ℕ) → partOf s i q ≡ k → (g : Parsed Placed) → KeyIs s i q (mapped (λ p. record { key = k; placed = p }) g)
-        named = unfold mapped in (λ k e. elim [ parsed p l ↦ e | malformed ↦ tt ])
+        valued : (k : List ℕ) → q ≡ i + length k → (g : Parsed Placed) → valueRead.Found v ≡ valueFound s g → leftAt s (read.At n) ≡ restOf g → memberRead.Found (record { key = record { from = i; to = q }; value = v; next = n }) ≡ memberFound s (mapped (λ p. record { key = k; from = length (drop i s); placed = p }) g)
+        valued = unfold mapped memberFound memberAt valueFound in (λ k y. elim [
+          | parsed p o ↦ λ a l.
+              let a1 : i ≡ length s - length (drop i s) = omega (arith, length-drop i s) in
+              let a2 : q ≡ length s - length (drop i s) + length k = omega (arith, length-drop i s) in
+              let a3 : v ≡ placedAt s p = cc in
+              let a4 : n ≡ length s - length o = place-left s o n (omega (arith, value-high w v e)) (left-parsed s o n p l) in
+              λ j. memberRead.Found (record { key = record { from = a1 j; to = a2 j }; value = a3 j; next = a4 j })
+          | malformed ↦ λ a l. clash cc
+        ])
 
-        go : (g : Parsed (List ℕ)) → leftAt s (read.At q) ≡ restOf g → Took (λ k. k) (drop i s) g → KeyIs s i q (after g (λ k m. mapped (λ p. record { key = k; placed = p }) (assignedOf m)))
+        go : (g : Parsed (List ℕ)) → leftAt s (read.At q) ≡ restOf g → Took (λ k. k) (drop i s) g → memberRead.Found (record { key = record { from = i; to = q }; value = v; next = n }) ≡ memberFound s (after g (λ k m. mapped (λ p. record { key = k; from = length (drop i s); placed = p }) (assignedOf m)))
         go = unfold after in (elim [
           | parsed k m ↦ λ u t.
               let d : drop q s ≡ m = left-parsed s m q k u in
-              let w : q ≡ i + length k = omega (arith, ap high at, sym (length-drop i s) ∙ ap length t, length-append k m, sym (length-drop q s) ∙ ap length d) in
-              named k (rw w (part-took s k m i h t)) (assignedOf m)
+              let y : q ≡ i + length k = omega (arith, ap high at, sym (length-drop i s) ∙ ap length t, length-append k m, sym (length-drop q s) ∙ ap length d) in
+              valued k y (assignedOf m) (rw d at (sym e ∙ wi)) (rw d at (value-left w v e s n _ z wl))
           | malformed ↦ λ u t. absurd (left-not (List ℕ) s q u)
         ])
 
-  pub member-none : r ≡ read.Malformed → found.NotADictionary ≡ memberValue s (memberOf (drop i s))
-  unfolding memberOf
-  member-none e = go (keyOf (drop i s)) (left-none s r _ e is)
-    where
-      go : (g : Parsed (List ℕ)) → leftAt s read.Malformed ≡ restOf g → found.NotADictionary ≡ memberValue s (after g (λ k m. mapped (λ p. record { key = k; placed = p }) (assignedOf m)))
-      go = unfold after memberValue in (elim [ parsed k m ↦ λ u. absurd (none-parsed s m k u) | malformed ↦ λ u. refl ])
+pub ruleset members = (member-found, member-unread, member-no-key)
 
-  pub member-no-key : (q : ℕ) → r ≡ read.Malformed → KeyIs s i q (memberOf (drop i s))
-  unfolding memberOf
-  member-no-key q e = go (keyOf (drop i s)) (left-none s r _ e is)
-    where
-      go : (g : Parsed (List ℕ)) → leftAt s read.Malformed ≡ restOf g → KeyIs s i q (after g (λ k m. mapped (λ p. record { key = k; placed = p }) (assignedOf m)))
-      go = unfold after in (elim [ parsed k m ↦ λ u. absurd (none-parsed s m k u) | malformed ↦ λ u. tt ])
+-- its parts
+pub at-key : (s : List ℕ) (m : Member) (n : ℕ) → memberAt s m n .key ≡ record { from = length s - m .from; to = length s - m .from + length (m .key) }
+unfolding memberAt
+at-key s m n = refl
 
-pub ruleset members = (member-value, member-key, member-none, member-no-key)
+pub at-value : (s : List ℕ) (m : Member) (n : ℕ) → memberAt s m n .value ≡ placedAt s (m .placed)
+unfolding memberAt
+at-value s m n = refl
 
--- a member and what stands past it
-module _ (s : List ℕ) (i : ℕ) (v : MemberFound) (left : leftAt s (endOf v) ≡ restOf (memberOf (drop i s))) (e : Read) (is : e ≡ endOf v) where
-  pub turn-parted : (q : ℕ) (t : Turn) → e ≡ read.At q → wentAt s t ≡ wentOf (partedBy (drop q s)) → wentAt s t ≡ wentOf (dictTurn (drop i s))
-  unfolding dictTurn
-  turn-parted q t at w = went-after s (wentAt s t) (memberOf (drop i s)) (endOf v) q (λ x m. partedOf x m) left (sym is ∙ at) (λ x. parted-any (wentAt s t) tt x (drop q s) w)
+pub at-next : (s : List ℕ) (m : Member) (n : ℕ) → memberAt s m n .next ≡ n
+unfolding memberAt
+at-next s m n = refl
 
-  pub turn-unparted : e ≡ read.Malformed → wentAt s turn.Malformed ≡ wentOf (dictTurn (drop i s))
-  unfolding dictTurn
-  turn-unparted at = went-malformed s (memberOf (drop i s)) (endOf v) (λ x m. partedOf x m) left (sym is ∙ at)
+-- a member at a cursor, and what parts it from the next
+module _ (s : List ℕ) (c i : ℕ) (e : drop i s ≡ past isSpace (drop c s)) where
+  pub next-end : length s ≤ i → next.End ≡ nextAt s c
+  unfolding nextAt skip pick
+  next-end h = rw (← e, empty-yes s i h)
 
-pub ruleset dict-turns = (turn-parted, turn-unparted)
+  at-member : i < length s → readAt s (memberOf (drop i s)) ≡ nextAt s c
+  unfolding nextAt skip pick
+  at-member h = rw (← e, empty-no s i h)
 
--- its places
-module _ (i n : ℕ) (v : MemberFound) (e : Read) (q : ℕ) (is : e ≡ endOf v) (at : e ≡ read.At q) where
-  pub end-upto : high (endOf v) ≤ n → q ≤ n
-  end-upto h = rw (sym is ∙ at) at h
-
-  end-past : i < low (endOf v) → i < q
-  end-past h = rw (sym is ∙ at) at h
-
-  pub turn-past : (t : Turn) → i < low (endOf v) → q < lowMore t → i < lowMore t
-  turn-past t h g = let z : i < q = end-past h in omega arith
-
-  pub turn-from : (t : Turn) → i < low (endOf v) → q ≤ lowDone t → i ≤ lowDone t
-  turn-from t h g = let z : i < q = end-past h in omega arith
-
--- one member against the newest so far
-module _ (s : List ℕ) (i to : ℕ) (v : MemberFound) (key : List ℕ) (best : MemberFound) (left : leftAt s (endOf v) ≡ restOf (memberOf (drop i s))) (e : Read) (is : e ≡ endOf v) where
-  module _ (named : KeyIs s i to (memberOf (drop i s))) (part : List ℕ) (cut : part ≡ partOf s i to) (b : Bool) (told : b ≡ sameBytes part key) where
-    pub newer-hit : (q : ℕ) → e ≡ read.At q → v ≡ memberValue s (memberOf (drop i s)) → b ≡ true → v ≡ into (newest s key) best (oneOf (memberOf (drop i s)))
-    newer-hit q at u t = go (memberOf (drop i s)) u (rw (sym is ∙ at) at left) named
+  module _ (h : i < length s) (r : MemberRead) (is : r ≡ memberFound s (memberOf (drop i s))) where
+    pub next-unread : r ≡ memberRead.Malformed → next.NotADictionary ≡ nextAt s c
+    next-unread at = go (memberOf (drop i s)) (sym at ∙ is) ∙ at-member h
       where
-        go : (g : Parsed Member) → v ≡ memberValue s g → leftAt s (read.At q) ≡ restOf g → KeyIs s i to g → v ≡ into (newest s key) best (oneOf g)
-        go = unfold oneOf into newest memberValue pick in (elim [ parsed m l ↦ λ w d k. let y : sameBytes (m .key) key ≡ true = rw (cut, k, t) at (sym told) in rw y w | malformed ↦ λ w d k. absurd (left-not Member s q d) ])
+        go : (g : Parsed Member) → memberRead.Malformed ≡ memberFound s g → next.NotADictionary ≡ readAt s g
+        go = unfold memberFound readAt in (elim [ parsed m l ↦ λ u. clash cc | malformed ↦ λ u. refl ])
 
-    pub newer-miss : b ≡ false → best ≡ into (newest s key) best (oneOf (memberOf (drop i s)))
-    newer-miss t = go (memberOf (drop i s)) named
-      where
-        go : (g : Parsed Member) → KeyIs s i to g → best ≡ into (newest s key) best (oneOf g)
-        go = unfold oneOf into newest pick in (elim [ parsed m l ↦ λ k. let y : sameBytes (m .key) key ≡ false = rw (cut, k, t) at (sym told) in rw y | malformed ↦ λ k. refl ])
+    module _ (left : leftAt s (memberEnd r) ≡ restOf (memberOf (drop i s))) (m : MemberAt) (at : r ≡ memberRead.Found m) (t : Turn) (ts : wentAt s t ≡ wentOf (partedBy (drop (m .next) s))) where
+      -- the answer, by what parts the member from the next
+      parted-as : (R : NextMember) → ((x : Member) → m ≡ memberAt s x (m .next) → R ≡ partedAt s x (partedBy (drop (m .next) s))) → R ≡ nextAt s c
+      parted-as R k = go (memberOf (drop i s)) (sym at ∙ is) (rw at at left) ∙ at-member h
+        where
+          go : (g : Parsed Member) → memberRead.Found m ≡ memberFound s g → leftAt s (read.At (m .next)) ≡ restOf g → R ≡ readAt s g
+          go = unfold memberFound readAt in (elim [
+            | parsed x l ↦ λ u v.
+                let d : drop (m .next) s ≡ l = left-parsed s l (m .next) x v in
+                let a : m ≡ memberAt s x (length s - length l) = cc in
+                let b : m .next ≡ length s - length l = ap (λ (z : MemberAt). z .next) a ∙ at-next s x (length s - length l) in
+                rw (← d) (k x (a ∙ ap (memberAt s x) (sym b)))
+            | malformed ↦ λ u v. clash cc
+          ])
 
-  pub newer-none : e ≡ read.Malformed → best ≡ into (newest s key) best (oneOf (memberOf (drop i s)))
-  newer-none at = go (memberOf (drop i s)) (rw (sym is ∙ at) at left)
-    where
-      go : (g : Parsed Member) → leftAt s read.Malformed ≡ restOf g → best ≡ into (newest s key) best (oneOf g)
-      go = unfold oneOf into in (elim [ parsed m l ↦ λ d. absurd (none-parsed s l m d) | malformed ↦ λ d. refl ])
+      member-next : (x : Member) (n o : ℕ) → m ≡ memberAt s x (m .next) → n ≡ o → record { key = m .key; value = m .value; next = n } ≡ memberAt s x o
+      unfolding memberAt
+      member-next x n o a b = rw (a, b)
 
-pub ruleset newers = (newer-hit, newer-miss, newer-none)
+      pub next-fails : t ≡ turn.Malformed → next.NotADictionary ≡ nextAt s c
+      next-fails f = parted-as next.NotADictionary (λ x a. go x (partedBy (drop (m .next) s)) (rw f at ts))
+        where
+          go : (x : Member) (st : Step (Unit {0})) → wentAt s turn.Malformed ≡ wentOf st → next.NotADictionary ≡ partedAt s x st
+          go = unfold wentAt wentOf partedAt in (λ x. elim [ more u l ↦ λ w. clash cc | done u l ↦ λ w. clash cc | fail ↦ λ w. refl ])
 
--- what a turn of a dictionary adds
-adds-parted : (x : Member) (l : List ℕ) → Adds (partedOf x l) (x ∷ [])
-unfolding partedOf skip next
-adds-parted x l = go (isEmpty (past isBlank l)) (eqb (headOf (past isBlank l)) 44) (isEmpty (past isBlank (drop 1 (past isBlank l)))) (past isBlank l) (past isBlank (drop 1 (past isBlank l)))
-  where
-    go : (a b c : Bool) (m o : List ℕ) → Adds (pick a (done (x ∷ []) m) (pick b (pick c fail (more (x ∷ []) o)) fail)) (x ∷ [])
-    go = unfold pick in (elim [ true ↦ λ b c m o. refl | false ↦ elim [ true ↦ elim [ true ↦ λ m o. tt | false ↦ λ m o. refl ] | false ↦ λ c m o. tt ] ])
+      module _ (n : ℕ) (hn : highTurn t ≤ length s) where
+        pub next-more : t ≡ turn.More n → next.Member (record { key = m .key; value = m .value; next = n }) ≡ nextAt s c
+        next-more f = parted-as _ (λ x a. go x a (partedBy (drop (m .next) s)) (rw f at ts))
+          where
+            go : (x : Member) → m ≡ memberAt s x (m .next) → (st : Step (Unit {0})) → wentAt s (turn.More n) ≡ wentOf st → next.Member (record { key = m .key; value = m .value; next = n }) ≡ partedAt s x st
+            go = unfold wentAt wentOf partedAt in (λ x a. elim [
+              | more u l ↦ λ w. let d : drop n s ≡ l = cc in ap next.Member (member-next x n (length s - length l) a (place-left s l n (omega (arith, ap highTurn f)) d))
+              | done u l ↦ λ w. clash cc
+              | fail ↦ λ w. clash cc
+            ])
 
-pub dict-adds : (l : List ℕ) → Adds (dictTurn l) (oneOf (memberOf l))
-unfolding dictTurn
-dict-adds l = go (memberOf l)
-  where
-    go : (g : Parsed Member) → Adds (going g (λ x m. partedOf x m)) (oneOf g)
-    go = unfold going oneOf in (elim [ parsed x m ↦ adds-parted x m | malformed ↦ tt ])
+        pub next-last : t ≡ turn.Done n → next.Member (record { key = m .key; value = m .value; next = n }) ≡ nextAt s c
+        next-last f = parted-as _ (λ x a. go x a (partedBy (drop (m .next) s)) (rw f at ts))
+          where
+            go : (x : Member) → m ≡ memberAt s x (m .next) → (st : Step (Unit {0})) → wentAt s (turn.Done n) ≡ wentOf st → next.Member (record { key = m .key; value = m .value; next = n }) ≡ partedAt s x st
+            go = unfold wentAt wentOf partedAt in (λ x a. elim [
+              | more u l ↦ λ w. clash cc
+              | done u l ↦ λ w. let d : drop n s ≡ l = cc in ap next.Member (member-next x n (length s - length l) a (place-left s l n (omega (arith, ap highTurn f)) d))
+              | fail ↦ λ w. clash cc
+            ])
 
--- the answer, by the fold
-pub answered-some : (b : MemberFound) (R : Option MemberFound) → some b ≡ R → b ≡ answered R
-unfolding answered
-answered-some b R e = ap answered e
+pub ruleset nexts = (next-end, next-unread, next-fails, next-more, next-last)
 
-pub answered-none : (R : Option MemberFound) → none ≡ R → found.NotADictionary ≡ answered R
-unfolding answered
-answered-none R e = ap answered e
+-- the place past a member, and the next cursor, for `omega`
+pub member-low : (r : MemberRead) (m : MemberAt) → r ≡ memberRead.Found m → low (memberEnd r) ≡ m .next
+member-low r m e = rw e
 
--- the newest answer is the answer for the last member
-module _ (s key : List ℕ) where
-  newest-answer : (b : Option Member) (m : Member) → answerOf s (some (latest key b m)) ≡ newest s key (answerOf s (some b)) m
-  unfolding latest newest
-  newest-answer b m = go (sameBytes (m .key) key)
-    where
-      go : (t : Bool) → answerOf s (some (pick t (some m) b)) ≡ pick t (placedAt s (m .placed)) (answerOf s (some b))
-      go = unfold pick answerOf in (elim [ true ↦ refl | false ↦ refl ])
+pub member-high : (r : MemberRead) (m : MemberAt) → r ≡ memberRead.Found m → high (memberEnd r) ≡ m .next
+member-high r m e = rw e
 
-  newest-all : (ms : List Member) (b : Option Member) → answerOf s (some (into (latest key) b ms)) ≡ into (newest s key) (answerOf s (some b)) ms
-  unfolding into
-  newest-all [] b = refl
-  newest-all (m ∷ ms) b = newest-all ms (latest key b m) ∙ ap (λ (z : MemberFound). into (newest s key) z ms) (newest-answer b m)
+pub next-member-low : (r : NextMember) (m : MemberAt) → r ≡ next.Member m → lowMember r ≡ m .next
+next-member-low r m e = rw e
 
-  pub answer-fold : (g : Parsed (List Member)) → answered (foldParsed (newest s key) found.Absent g) ≡ answerOf s (lastIn key (dataOf g))
-  unfolding answered foldParsed dataOf lastIn answerOf
-  answer-fold (parsed ms l) = sym (newest-all ms none)
-  answer-fold malformed = refl
-
--- a whole text
-module _ (s key : List ℕ) (q : ℕ) (e : drop q s ≡ past isSpace (drop 0 s)) where
-  pub look-empty : length s ≤ q → found.Absent ≡ lastFound s key
-  unfolding readAll skip pick dataOf lastIn into answerOf
-  look-empty h = rw (← e, empty-yes s q h)
-
-  pub look-start : (R : MemberFound) → q < length s → R ≡ answered (foldParsed (newest s key) found.Absent (turnsOf dictTurn (drop q s))) → R ≡ lastFound s key
-  unfolding readAll skip pick
-  look-start R h g = rw (← e, empty-no s q h) (g ∙ answer-fold s key (turnsOf dictTurn (drop q s)))
-
-pub ruleset looks = (look-empty, look-start)
-
--- any key tells whether the text is a dictionary
-module _ (s key : List ℕ) (r : MemberFound) (is : r ≡ lastFound s key) where
-  placed-not : (p : Placed) (v : Value) → valueAt s p v ≡ found.NotADictionary → ⊥
-  unfolding valueAt
-  placed-not p (one x) u = clash cc
-  placed-not p (many xs) u = clash cc
-
-  pub not-dictionary : r ≡ found.NotADictionary → false ≡ isSome (dictionary s)
-  not-dictionary at = go (dictionary s) (sym is ∙ at)
-    where
-      deep : (o : Option Member) → answerOf s (some o) ≡ found.NotADictionary → ⊥
-      deep = unfold answerOf placedAt in (elim [ some m ↦ λ u. placed-not (m .placed) (m .placed .value) u | none ↦ λ u. (clash cc) ])
-
-      go : (d : Option (List Member)) → answerOf s (lastIn key d) ≡ found.NotADictionary → false ≡ isSome d
-      go = unfold lastIn isSome in (elim [ some ms ↦ λ u. absurd (deep (into (latest key) none ms) u) | none ↦ λ u. refl ])
-
-  is-dictionary : (found.NotADictionary ≡ r → ⊥) → true ≡ isSome (dictionary s)
-  is-dictionary n = go (dictionary s) is
-    where
-      go : (d : Option (List Member)) → r ≡ answerOf s (lastIn key d) → true ≡ isSome d
-      go = unfold lastIn isSome answerOf in (elim [ some ms ↦ λ u. refl | none ↦ λ u. absurd (n (sym u)) ])
-
-  pub dictionary-absent : r ≡ found.Absent → true ≡ isSome (dictionary s)
-  dictionary-absent at = is-dictionary (λ u. clash cc)
-
-  pub dictionary-item : (m : MemberItem) → r ≡ found.Item m → true ≡ isSome (dictionary s)
-  dictionary-item m at = is-dictionary (λ u. clash cc)
-
-  pub dictionary-list : (m : MemberList) → r ≡ found.List m → true ≡ isSome (dictionary s)
-  dictionary-list m at = is-dictionary (λ u. clash cc)
-
-pub ruleset whether = (not-dictionary, dictionary-absent, dictionary-item, dictionary-list)
+pub next-member-high : (r : NextMember) (m : MemberAt) → r ≡ next.Member m → highMember r ≡ m .next
+next-member-high r m e = rw e

@@ -1,15 +1,15 @@
 -- RFC 8941 section 4.2: inner lists, members and dictionaries, read from the front of a text.
 use Prim.Native.Nat.{ℕ}
 use mathlib.Core.List.{List, [], _∷_}
-use mathlib.Core.Bool.{Bool, _||_}
+use mathlib.Core.Bool.{_||_}
 use mathlib.Core.Option.{Option, some, none}
 use lib.ListN.{length}
 use lib.Dec.{eqb}
-use Rattle.ascii.specs.Bytes.{pick}
+use Rattle.ascii.specs.Bytes.{pick, isSpace, isBlank}
 use Rattle.ascii.specs.Reading.{Parsed, Step, headOf, isEmpty, next, skip, after, mapped, going, turnsOf}
 use Rattle.ascii.specs.Reading.Parsed.{parsed, malformed}
 use Rattle.ascii.specs.Reading.Step.{more, done, fail}
-use Rattle.items.specs.Items.{Item, isSpace, keyOf, bareOf, paramsOf, itemOf}
+use Rattle.items.specs.Items.{Item, Parameter, keyOf, bareOf, paramsOf, itemOf}
 use Rattle.items.specs.Items.Item.{other}
 
 -- a member's value: an item, or an inner list of items
@@ -17,21 +17,24 @@ pub data Value : Type 0 where
   one : Item → Value
   many : List Item → Value
 
--- a value as it stands in a text; a place is said by how many bytes are left there: where an item or the first item of a list may start,
--- where the member's parameters start, and where they end
+abbrev pub valueItems : Value → List Item
+valueItems (one x) = x ∷ []
+valueItems (many xs) = xs
+
+-- a value and its parameters, repeated keys kept, as they stand in a text; a place is said by how many bytes are left there: where an item or
+-- the first item of a list may start, and where the member's parameters start and end
 pub record Placed : Type 0 where
   pub value : Value
+  pub parameters : List Parameter
   pub start : ℕ
-  pub params : ℕ
-  pub end : ℕ
+  pub paramsFrom : ℕ
+  pub paramsTo : ℕ
 
+-- a member: its key, and where that starts
 pub record Member : Type 0 where
   pub key : List ℕ
+  pub from : ℕ
   pub placed : Placed
-
--- space and tab: RFC 8941's OWS
-abbrev pub isBlank : ℕ → Bool
-isBlank b = eqb b 32 || eqb b 9
 
 -- 4.2.1.2, an item of an inner list, which a space or ")" must follow, or the list's end
 unfoldable pub innerTurn : List ℕ → Step Item
@@ -47,7 +50,9 @@ innerOf l = turnsOf innerTurn l
 
 -- the parameters of a member, past its value
 unfoldable pub closedOf : Value → List ℕ → List ℕ → Parsed Placed
-closedOf v l m = after (paramsOf m) (λ p n. parsed (record { value = v; start = length l; params = length m; end = length n }) n)
+closedOf v l m =
+    after (paramsOf m)
+    (λ ps n. parsed (record { value = v; parameters = ps; start = length l; paramsFrom = length m; paramsTo = length n }) n)
 
 -- 4.2.1.2, an inner list past its "(", and its parameters
 unfoldable pub listOf : List ℕ → Parsed Placed
@@ -71,7 +76,7 @@ assignedOf l = pick (eqb (headOf l) 61) (next l (λ m. valueOf m)) (bareKey l)
 
 -- 4.2.2, one member
 unfoldable pub memberOf : List ℕ → Parsed Member
-memberOf l = after (keyOf l) (λ k m. mapped (λ v. record { key = k; placed = v }) (assignedOf m))
+memberOf l = after (keyOf l) (λ k m. mapped (λ v. record { key = k; from = length l; placed = v }) (assignedOf m))
 
 -- 4.2.2, past a member: OWS and the end; or OWS, a comma, OWS, and not the end
 unfoldable pub partedOf : {A : Type 0} → A → List ℕ → Step A
@@ -98,11 +103,11 @@ unfoldable pub dataOf : {A : Type 0} → Parsed A → Option A
 dataOf (parsed a l) = some a
 dataOf malformed = none
 
--- the members of a text in order, repeated keys kept, each with its places; none where it is not a dictionary
+-- the members of a text in order, repeated keys kept, each with its parameters and places; none where it is not a dictionary
 abbrev pub dictionary : List ℕ → Option (List Member)
 dictionary s = dataOf (readAll s)
 
--- a member without its places
+-- a member without its parameters and places
 pub record Plain : Type 0 where
   pub key : List ℕ
   pub value : Value

@@ -2,22 +2,25 @@
 use Prim.Native.Nat.{ℕ, _+_}
 use Prim.Native.String.{String}
 use mathlib.Core.Path.{_≡_, refl}
-use mathlib.Core.List.{List, [], _∷_}
-use mathlib.Core.Bool.{Bool, true, false, _&&_}
+use mathlib.Core.List.{List, [], _∷_, map}
+use mathlib.Core.Bool.{Bool, true, false}
 use mathlib.Core.Option.{Option, some, none}
 use lib.Dec.{eqb}
-use Rattle.ascii.specs.Bytes.{pick}
 use Rattle.ascii.specs.Literals.{text}
-use Rattle.ascii.specs.Reading.{headOf, headIs, isEmpty, next, skip, letLen, runOf, past, after, mapped, going, adding, onStep, turns}
-use Rattle.items.specs.Items.{Item, keyOf, tokenOf, booleanOf, bytesOf, fractionOf, unsignedOf, numberOf, stringTurn, stringOf, bareOf, paramOf, paramTurn, paramsOf, itemOf}
+use Rattle.ascii.specs.Texts.{every}
 use Rattle.items.specs.Items.Item.{token, string, other}
-use Rattle.dictionaries.specs.Dictionaries.{Member, dictionary, innerTurn, innerOf, closedOf, listOf, loneOf, bareKey, valueOf, assignedOf, memberOf, partedOf, dictTurn, readAll, dataOf}
-use Rattle.dictionaries.specs.Dictionaries.Value.{one, many}
-use Rattle.ascii.specs.Texts.{every, sameBy}
-use Rattle.items.specs.Found.{itemRange}
 use Rattle.items.specs.declared.ItemKind.the-variants as kind
-use Rattle.dictionaries.specs.Lookup.{into, latest, lastIn, valueAt, placedAt, answerOf, lastFound, pointedAt, cursorAt}
+use Rattle.dictionaries.specs.Computing.{computing}
+use Rattle.dictionaries.specs.Dictionaries.{Member, dictionary}
+use Rattle.dictionaries.specs.Dictionaries.Value.{one, many}
+use Rattle.dictionaries.specs.Lookup.{lastFound, cursorAt}
+use Rattle.dictionaries.specs.Members.{nextAt}
+use Rattle.dictionaries.specs.declared.MemberFound.{MemberFound}
 use Rattle.dictionaries.specs.declared.MemberFound.the-variants as found
+use Rattle.dictionaries.specs.declared.MemberValue.the-variants as value
+use Rattle.dictionaries.specs.declared.NextMember.{NextMember}
+use Rattle.dictionaries.specs.declared.NextMember.the-variants as next
+use Rattle.dictionaries.specs.declared.ListItem.{ListItem}
 use Rattle.dictionaries.specs.declared.ListItem.the-variants as list
 
 -- a text, and how many members it has; or it is no dictionary
@@ -87,60 +90,72 @@ rows =
     ∷ []
 
 rows-right : every right rows ≡ true
-unfolding rows every counted pick headOf headIs isEmpty next skip letLen runOf past after mapped going adding onStep turns keyOf tokenOf booleanOf bytesOf fractionOf unsignedOf numberOf stringTurn stringOf bareOf paramOf paramTurn paramsOf itemOf innerTurn innerOf closedOf listOf loneOf bareKey valueOf assignedOf memberOf partedOf dictTurn readAll dataOf
+unfolding rows counted computing
 rows-right = refl
 
 -- `a="é"`: not a dictionary
 bytes-over-ascii : dictionary (97 ∷ 61 ∷ 34 ∷ 195 ∷ 169 ∷ 34 ∷ []) ≡ none
-unfolding pick headOf headIs isEmpty next skip letLen runOf past after mapped going adding onStep turns keyOf tokenOf booleanOf bytesOf fractionOf unsignedOf numberOf stringTurn stringOf bareOf paramOf paramTurn paramsOf itemOf innerTurn innerOf closedOf listOf loneOf bareKey valueOf assignedOf memberOf partedOf dictTurn readAll dataOf counted
+unfolding computing
 bytes-over-ascii = refl
 
--- `a=(b "c");d, e`: keys, values and places
-members-placed : dictionary (text "a=(b \"c\");d, e") ≡ some (record { key = text "a"; placed = record { value = many (token (text "b") ∷ string (text "c") ∷ []); start = 11; params = 5; end = 3 } } ∷ record { key = text "e"; placed = record { value = one other; start = 0; params = 0; end = 0 } } ∷ [])
-unfolding pick headOf headIs isEmpty next skip letLen runOf past after mapped going adding onStep turns keyOf tokenOf booleanOf bytesOf fractionOf unsignedOf numberOf stringTurn stringOf bareOf paramOf paramTurn paramsOf itemOf innerTurn innerOf closedOf listOf loneOf bareKey valueOf assignedOf memberOf partedOf dictTurn readAll dataOf counted
+-- keys, values, parameters and places
+members-placed : dictionary (text "a=(b \"c\");d=x;d, e") ≡ some (record { key = text "a"; from = 18; placed = record { value = many (token (text "b") ∷ string (text "c") ∷ []); parameters = record { key = text "d"; value = token (text "x") } ∷ record { key = text "d"; value = other } ∷ []; start = 15; paramsFrom = 9; paramsTo = 3 } } ∷ record { key = text "e"; from = 1; placed = record { value = one other; parameters = []; start = 0; paramsFrom = 0; paramsTo = 0 } } ∷ [])
+unfolding computing
 members-placed = refl
 
--- the last of a repeated key, in `a=(b "c");d, e, a`
-last-bare-key : lastFound (text "a=(b \"c\");d, e, a") (text "a") ≡ found.Item (record { item = record { kind = kind.Other; from = 17; to = 17 }; params = record { from = 17; to = 17 } })
-unfolding pick headOf headIs isEmpty next skip letLen runOf past after mapped going adding onStep turns keyOf tokenOf booleanOf bytesOf fractionOf unsignedOf numberOf stringTurn stringOf bareOf paramOf paramTurn paramsOf itemOf innerTurn innerOf closedOf listOf loneOf bareKey valueOf assignedOf memberOf partedOf dictTurn readAll dataOf sameBy itemRange into latest lastIn valueAt placedAt answerOf pointedAt cursorAt
-last-bare-key = refl
+-- a text, a key, and the answer for its last member
+record Lookup : Type 0 where
+  header : String
+  key : String
+  answer : MemberFound
 
--- a list and its parameters, in `a=(b "c" );d, e`
-last-list : lastFound (text "a=(b \"c\" );d, e") (text "a") ≡ found.List (record { first = 3; params = record { from = 10; to = 12 } })
-unfolding pick headOf headIs isEmpty next skip letLen runOf past after mapped going adding onStep turns keyOf tokenOf booleanOf bytesOf fractionOf unsignedOf numberOf stringTurn stringOf bareOf paramOf paramTurn paramsOf itemOf innerTurn innerOf closedOf listOf loneOf bareKey valueOf assignedOf memberOf partedOf dictTurn readAll dataOf sameBy itemRange into latest lastIn valueAt placedAt answerOf pointedAt cursorAt
-last-list = refl
+lookups : List Lookup
+lookups =
+    record { header = "a=(b \"c\");d, e, a"; key = "a"; answer = found.Item (record { item = record { kind = kind.Other; from = 17; to = 17 }; params = record { from = 17; to = 17 } }) }
+    ∷ record { header = "a=(b \"c\" );d, e"; key = "a"; answer = found.List (record { first = 3; params = record { from = 10; to = 12 } }) }
+    ∷ record { header = "x, a=tok;p"; key = "a"; answer = found.Item (record { item = record { kind = kind.Token; from = 5; to = 8 }; params = record { from = 8; to = 10 } }) }
+    ∷ record { header = "a=(b \"c\" );d, e"; key = "c"; answer = found.Absent }
+    ∷ record { header = "a,"; key = "a"; answer = found.NotADictionary }
+    ∷ []
 
--- no such member
-last-absent : lastFound (text "a=(b \"c\" );d, e") (text "c") ≡ found.Absent
-unfolding pick headOf headIs isEmpty next skip letLen runOf past after mapped going adding onStep turns keyOf tokenOf booleanOf bytesOf fractionOf unsignedOf numberOf stringTurn stringOf bareOf paramOf paramTurn paramsOf itemOf innerTurn innerOf closedOf listOf loneOf bareKey valueOf assignedOf memberOf partedOf dictTurn readAll dataOf sameBy itemRange into latest lastIn valueAt placedAt answerOf pointedAt cursorAt
-last-absent = refl
+lookups-right : map (λ l. lastFound (text (l .header)) (text (l .key))) lookups ≡ map (λ l. l .answer) lookups
+unfolding lookups computing
+lookups-right = refl
 
--- no dictionary
-last-malformed : lastFound (text "a,") (text "a") ≡ found.NotADictionary
-unfolding pick headOf headIs isEmpty next skip letLen runOf past after mapped going adding onStep turns keyOf tokenOf booleanOf bytesOf fractionOf unsignedOf numberOf stringTurn stringOf bareOf paramOf paramTurn paramsOf itemOf innerTurn innerOf closedOf listOf loneOf bareKey valueOf assignedOf memberOf partedOf dictTurn readAll dataOf sameBy itemRange into latest lastIn valueAt placedAt answerOf pointedAt cursorAt
-last-malformed = refl
+-- the members of ` a=(b);p ,\tc="d"` by the cursor: two, and the end, also from a place outside; but `x` is no member past another
+record Step : Type 0 where
+  header : String
+  cursor : ℕ
+  answer : NextMember
 
--- an item and its parameters, in `x, a=tok;p`
-last-token : lastFound (text "x, a=tok;p") (text "a") ≡ found.Item (record { item = record { kind = kind.Token; from = 5; to = 8 }; params = record { from = 8; to = 10 } })
-unfolding pick headOf headIs isEmpty next skip letLen runOf past after mapped going adding onStep turns keyOf tokenOf booleanOf bytesOf fractionOf unsignedOf numberOf stringTurn stringOf bareOf paramOf paramTurn paramsOf itemOf innerTurn innerOf closedOf listOf loneOf bareKey valueOf assignedOf memberOf partedOf dictTurn readAll dataOf sameBy itemRange into latest lastIn valueAt placedAt answerOf pointedAt cursorAt
-last-token = refl
+steps : List Step
+steps =
+    record { header = " a=(b);p ,\tc=\"d\""; cursor = 0; answer = next.Member (record { key = record { from = 1; to = 2 }; value = value.List (record { first = 4; params = record { from = 6; to = 8 } }); next = 11 }) }
+    ∷ record { header = " a=(b);p ,\tc=\"d\""; cursor = 11; answer = next.Member (record { key = record { from = 11; to = 12 }; value = value.Item (record { item = record { kind = kind.String; from = 14; to = 15 }; params = record { from = 16; to = 16 } }); next = 16 }) }
+    ∷ record { header = " a=(b);p ,\tc=\"d\""; cursor = 16; answer = next.End }
+    ∷ record { header = " a=(b);p ,\tc=\"d\""; cursor = 99; answer = next.End }
+    ∷ record { header = "  "; cursor = 0; answer = next.End }
+    ∷ record { header = "a=1 x"; cursor = 0; answer = next.NotADictionary }
+    ∷ record { header = "a=1, "; cursor = 0; answer = next.NotADictionary }
+    ∷ []
 
--- the items of `a=(b "c" );d, e` in order
-cursor-token : cursorAt (text "a=(b \"c\" );d, e") 3 ≡ list.Item (record { range = record { kind = kind.Token; from = 3; to = 4 }; next = 4 })
-unfolding pick headOf headIs isEmpty next skip letLen runOf past after mapped going adding onStep turns keyOf tokenOf booleanOf bytesOf fractionOf unsignedOf numberOf stringTurn stringOf bareOf paramOf paramTurn paramsOf itemOf innerTurn innerOf closedOf listOf loneOf bareKey valueOf assignedOf memberOf partedOf dictTurn readAll dataOf sameBy itemRange into latest lastIn valueAt placedAt answerOf pointedAt cursorAt
-cursor-token = refl
+steps-right : map (λ p. nextAt (text (p .header)) (p .cursor)) steps ≡ map (λ p. p .answer) steps
+unfolding steps computing
+steps-right = refl
 
--- the second
-cursor-string : cursorAt (text "a=(b \"c\" );d, e") 4 ≡ list.Item (record { range = record { kind = kind.String; from = 6; to = 7 }; next = 8 })
-unfolding pick headOf headIs isEmpty next skip letLen runOf past after mapped going adding onStep turns keyOf tokenOf booleanOf bytesOf fractionOf unsignedOf numberOf stringTurn stringOf bareOf paramOf paramTurn paramsOf itemOf innerTurn innerOf closedOf listOf loneOf bareKey valueOf assignedOf memberOf partedOf dictTurn readAll dataOf sameBy itemRange into latest lastIn valueAt placedAt answerOf pointedAt cursorAt
-cursor-string = refl
+-- the items of `a=(b "c" );d, e` by the cursor: two, and no third; nor is there one outside
+record Turn : Type 0 where
+  cursor : ℕ
+  answer : ListItem
 
--- and no third
-cursor-end : cursorAt (text "a=(b \"c\" );d, e") 8 ≡ list.End
-unfolding pick headOf headIs isEmpty next skip letLen runOf past after mapped going adding onStep turns keyOf tokenOf booleanOf bytesOf fractionOf unsignedOf numberOf stringTurn stringOf bareOf paramOf paramTurn paramsOf itemOf innerTurn innerOf closedOf listOf loneOf bareKey valueOf assignedOf memberOf partedOf dictTurn readAll dataOf sameBy itemRange into latest lastIn valueAt placedAt answerOf pointedAt cursorAt
-cursor-end = refl
+turns : List Turn
+turns =
+    record { cursor = 3; answer = list.Item (record { range = record { kind = kind.Token; from = 3; to = 4 }; next = 4 }) }
+    ∷ record { cursor = 4; answer = list.Item (record { range = record { kind = kind.String; from = 6; to = 7 }; next = 8 }) }
+    ∷ record { cursor = 8; answer = list.End }
+    ∷ record { cursor = 99; answer = list.End }
+    ∷ []
 
--- a cursor past the end
-cursor-outside : cursorAt (text "a=(b \"c\" );d, e") 99 ≡ list.End
-unfolding pick headOf headIs isEmpty next skip letLen runOf past after mapped going adding onStep turns keyOf tokenOf booleanOf bytesOf fractionOf unsignedOf numberOf stringTurn stringOf bareOf paramOf paramTurn paramsOf itemOf innerTurn innerOf closedOf listOf loneOf bareKey valueOf assignedOf memberOf partedOf dictTurn readAll dataOf sameBy itemRange into latest lastIn valueAt placedAt answerOf pointedAt cursorAt
-cursor-outside = refl
+turns-right : map (λ t. cursorAt (text "a=(b \"c\" );d, e") (t .cursor)) turns ≡ map (λ t. t .answer) turns
+unfolding turns computing
+turns-right = refl

@@ -1,6 +1,8 @@
 pub mod Dictionaries
 pub mod Lookup
+pub mod Members
 pub mod Steps
-pub mod Added
+pub mod OneItemMore
 pub mod Written
+pub mod Computing
 pub mod Examples

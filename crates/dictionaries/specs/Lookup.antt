@@ -6,15 +6,18 @@ use mathlib.Core.Bool.{Bool, true, false, _||_}
 use mathlib.Core.Option.{Option, some, none}
 use lib.ListN.{length, drop}
 use lib.Dec.{eqb}
-use Rattle.ascii.specs.Bytes.{pick}
+use Rattle.ascii.specs.Bytes.{pick, isSpace}
 use Rattle.ascii.specs.Texts.{sameBytes}
+use Rattle.ascii.specs.declared.TextRange.{TextRange}
 use Rattle.ascii.specs.Reading.{Parsed, Step, headOf, skip}
 use Rattle.ascii.specs.Reading.Parsed.{parsed, malformed}
 use Rattle.ascii.specs.Reading.Step.{more, done, fail}
-use Rattle.items.specs.Items.{Item, isSpace, itemOf}
-use Rattle.items.specs.Found.{itemRange, itemAs}
-use Rattle.dictionaries.specs.Dictionaries.{Value, Placed, Member, Plain, innerTurn, dictionary}
+use Rattle.items.specs.Items.{Item, Parameter, paramsOf, itemOf}
+use Rattle.items.specs.Found.{itemRange, itemIn}
+use Rattle.dictionaries.specs.Dictionaries.{Value, Placed, Member, Plain, innerTurn, dataOf, dictionary, members}
 use Rattle.dictionaries.specs.Dictionaries.Value.{one, many}
+use Rattle.dictionaries.specs.declared.MemberValue.{MemberValue}
+use Rattle.dictionaries.specs.declared.MemberValue.the-variants as value
 use Rattle.dictionaries.specs.declared.MemberFound.{MemberFound}
 use Rattle.dictionaries.specs.declared.MemberFound.the-variants as found
 use Rattle.dictionaries.specs.declared.ListItem.{ListItem}
@@ -46,18 +49,31 @@ unfoldable pub lastValueIn : List ℕ → Option (List Plain) → Option (Option
 lastValueIn key (some ms) = some (into (later key) none ms)
 lastValueIn key none = none
 
--- the places of a value and of the member's parameters, by what is left there
-unfoldable pub valueAt : List ℕ → Placed → Value → MemberFound
-valueAt s p (one x) = found.Item (record { item = itemRange (length s - p .start) x; params = record { from = length s - p .params; to = length s - p .end } })
-valueAt s p (many xs) = found.List (record { first = length s - p .start; params = record { from = length s - p .params; to = length s - p .end } })
+-- the parameters of the last member of a key
+unfoldable pub parametersOf : Option Member → Option (List Parameter)
+parametersOf (some m) = some (m .placed .parameters)
+parametersOf none = none
 
-unfoldable pub placedAt : List ℕ → Placed → MemberFound
+unfoldable pub lastParametersIn : List ℕ → Option (List Member) → Option (Option (List Parameter))
+lastParametersIn key (some ms) = some (parametersOf (into (latest key) none ms))
+lastParametersIn key none = none
+
+-- a value and its places as the code has them, by what is left there
+unfoldable pub valueAt : List ℕ → Placed → Value → MemberValue
+valueAt s p (one x) = value.Item (record { item = itemRange (length s - p .start) x; params = record { from = length s - p .paramsFrom; to = length s - p .paramsTo } })
+valueAt s p (many xs) = value.List (record { first = length s - p .start; params = record { from = length s - p .paramsFrom; to = length s - p .paramsTo } })
+
+unfoldable pub placedAt : List ℕ → Placed → MemberValue
 placedAt s p = valueAt s p (p .value)
+
+abbrev pub foundOf : MemberValue → MemberFound
+foundOf (value.Item m) = found.Item m
+foundOf (value.List m) = found.List m
 
 unfoldable pub answerOf : List ℕ → Option (Option Member) → MemberFound
 answerOf s none = found.NotADictionary
 answerOf s (some none) = found.Absent
-answerOf s (some (some m)) = placedAt s (m .placed)
+answerOf s (some (some m)) = foundOf (placedAt s (m .placed))
 
 -- the answer for the last member of a key
 abbrev pub lastFound : List ℕ → List ℕ → MemberFound
@@ -87,12 +103,39 @@ walk (suc n) l = onward (innerTurn l) (λ m. walk n m)
 abbrev pub itemsFrom : List ℕ → ℕ → List Item
 itemsFrom s c = walk (suc (length (drop c s))) (drop c s)
 
--- what an answer says: none where the text is not a dictionary, some none where it has no such member
-unfoldable pub foundAs : List ℕ → MemberFound → Option (Option Value)
-foundAs s found.NotADictionary = none
-foundAs s found.Absent = some none
-foundAs s (found.Item m) = some (some (one (itemAs s (m .item))))
-foundAs s (found.List m) = some (some (many (itemsFrom s (m .first))))
+-- what a value with its places says beside the text
+unfoldable pub valueIn : List ℕ → MemberValue → Value
+valueIn s (value.Item m) = one (itemIn s (m .item))
+valueIn s (value.List m) = many (itemsFrom s (m .first))
+
+-- what an answer for a key says: none where the text is not a dictionary, some none where it has no such member
+unfoldable pub foundIn : List ℕ → MemberFound → Option (Option Value)
+foundIn s found.NotADictionary = none
+foundIn s found.Absent = some none
+foundIn s (found.Item m) = some (some (one (itemIn s (m .item))))
+foundIn s (found.List m) = some (some (many (itemsFrom s (m .first))))
+
+-- the parameters that stand in a range: those that are read from its start on
+unfoldable pub parametersIn : List ℕ → TextRange → Option (List Parameter)
+parametersIn s p = dataOf (paramsOf (drop (p .from) s))
+
+unfoldable pub foundParametersIn : List ℕ → MemberFound → Option (Option (List Parameter))
+foundParametersIn s found.NotADictionary = none
+foundParametersIn s found.Absent = some none
+foundParametersIn s (found.Item m) = some (parametersIn s (m .params))
+foundParametersIn s (found.List m) = some (parametersIn s (m .params))
+
+-- "A repeated key keeps only its last value": the answer says the last value of the key and its parameters, and has
+-- that member's places
+pub record IsLast (s key : List ℕ) (r : MemberFound) : Type 0 where
+  pub says : foundIn s r ≡ lastValueIn key (members s)
+  pub parameters : foundParametersIn s r ≡ lastParametersIn key (dictionary s)
+  pub is : r ≡ lastFound s key
+
+-- what an answer at a cursor of an inner list says: the items from there on
+unfoldable pub listIn : List ℕ → ListItem → List Item
+listIn s (list.Item f) = itemIn s (f .range) ∷ itemsFrom s (f .next)
+listIn s list.End = []
 
 -- the next cursor, as a bound from below and from above
 abbrev pub lowNext : ListItem → ℕ
@@ -103,8 +146,9 @@ abbrev pub highNext : ListItem → ℕ
 highNext (list.Item f) = f .next
 highNext list.End = 0
 
--- the answer is what is read at the cursor; the next cursor lies past it, and within the text
+-- the answer says the items of the list from the cursor on, and is what is read there; the next cursor lies past it, and within the text
 pub record IsPointed (s : List ℕ) (c : ℕ) (r : ListItem) : Type 0 where
+  pub says : listIn s r ≡ itemsFrom s c
   pub is : r ≡ cursorAt s c
   pub past : c < lowNext r
   pub upto : highNext r ≤ length s

@@ -3,12 +3,12 @@
 use Prim.Native.Nat.{ℕ}
 use mathlib.Core.Path.{_≡_}
 use mathlib.Core.List.{List, [], _∷_, _++_, map}
-use mathlib.Core.Bool.{Bool, true, not, _&&_}
-use Rattle.ascii.specs.Bytes.{isKeyStart, isKeyByte, isTokenStart, isTokenByte, isText}
+use mathlib.Core.Bool.{true}
+use Rattle.ascii.specs.Bytes.{isKeyStart, isKeyByte, isTokenStart, isTokenByte}
 use Rattle.ascii.specs.Literals.{text}
 use Rattle.ascii.specs.Texts.{every}
 use Rattle.ascii.specs.Reading.{headIs}
-use Rattle.items.specs.Items.{Item, isEscaped}
+use Rattle.items.specs.Items.{Item, isUnescaped}
 use Rattle.items.specs.Items.Item.{token, string, other}
 use Rattle.dictionaries.specs.Dictionaries.{Value, Plain}
 use Rattle.dictionaries.specs.Dictionaries.Value.{one, many}
@@ -51,10 +51,6 @@ pub record GoodKey (k : List ℕ) : Type 0 where
 pub record GoodToken (t : List ℕ) : Type 0 where
   pub starts : headIs isTokenStart t ≡ true
   pub bytes : every isTokenByte t ≡ true
-
--- 4.1.6, a character of a string that needs no "\" before it
-abbrev pub isUnescaped : ℕ → Bool
-isUnescaped b = isText b && not (isEscaped b)
 
 -- items that can be written
 abbrev pub GoodItem : Item → Type 0

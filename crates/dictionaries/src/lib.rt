@@ -1,25 +1,20 @@
-// RFC 8941 dictionaries: whether a text is one, the last member of a key, and the items of an inner list one after the other.
+// RFC 8941 dictionaries: their members one after the other, the last member of a key, and the items of an inner list one after the other.
 ghost use mathlib.Core.Path.{_≡_};
 ghost use Prim.Native.Nat.{_≤_, _<_};
 ghost use lib.ListN.{length, drop};
 ghost use Rattle.ascii.specs.Places.{IsFrom, IsTurn};
-ghost use Rattle.ascii.specs.Reading.{turnsOf};
-ghost use Rattle.dictionaries.specs.Dictionaries.{innerTurn, innerOf, listOf, loneOf, valueOf, assignedOf, memberOf, partedBy, dictTurn, dictionary, bareKey};
-ghost use Rattle.dictionaries.specs.Lookup.{into, lastFound, isSome, IsPointed};
-ghost use Rattle.dictionaries.specs.Steps.{newest, oneOf, foldParsed, answered, endOf, IsValue, IsMember};
+ghost use Rattle.dictionaries.specs.Dictionaries.{innerTurn, innerOf, listOf, loneOf, valueOf, assignedOf, memberOf, partedBy, members, bareKey};
+ghost use Rattle.dictionaries.specs.Lookup.{isSome, foundOf, IsPointed, IsLast};
+ghost use Rattle.dictionaries.specs.Members.{IsNext};
+ghost use Rattle.dictionaries.specs.Steps.{endOf, newerOf, IsValue, IsMember};
 use ascii::Class;
 use ascii::Read;
+use ascii::TextRange;
 use ascii::Turn;
 use items::ItemFound;
 use items::ItemKind;
 use items::ItemRange;
 use items::ItemRead;
-
-// Where a part of the text stands.
-pub struct TextRange {
-    pub from: usize,
-    pub to: usize,
-}
 
 // A member that is an item, and where its parameters stand.
 pub struct MemberItem {
@@ -31,6 +26,26 @@ pub struct MemberItem {
 pub struct MemberList {
     pub first: usize,
     pub params: TextRange,
+}
+
+// A member's value: an item, or an inner list.
+pub enum MemberValue {
+    Item(MemberItem),
+    List(MemberList),
+}
+
+// A member: where its key stands, its value, and the next cursor.
+pub struct MemberAt {
+    pub key: TextRange,
+    pub value: MemberValue,
+    pub next: usize,
+}
+
+// A member; or none is left; or the text is not a dictionary from here on.
+pub enum NextMember {
+    Member(MemberAt),
+    End,
+    NotADictionary,
 }
 
 // The last member of a key.
@@ -47,10 +62,14 @@ pub enum ListItem {
     End,
 }
 
-// A member that was read: where its key ends, and its value.
-struct MemberAt {
-    to: usize,
-    value: MemberFound,
+enum ValueRead {
+    Found(MemberValue),
+    Malformed,
+}
+
+enum MemberRead {
+    Found(MemberAt),
+    Malformed,
 }
 
 // One item of an inner list, or its end.
@@ -120,24 +139,24 @@ pub fn item_at(s: &[u8], cursor: usize) -> ListItem
 }
 
 // An inner list past its "(", and its parameters.
-fn list_value(s: &[u8], at: usize) -> MemberFound
+fn list_value(s: &[u8], at: usize) -> ValueRead
     requires { ⌜ at ≤ length (now s) ⌝ }
     ensures { λ r. ⌜ IsValue (now (s .entry)) at r (listOf (drop at (now (s .entry)))) ⌝ }
 {
     match inner(s, at) {
         Read::At(q) => match items::params(s, q) {
-            Read::At(n) => MemberFound::List(MemberList {
+            Read::At(n) => ValueRead::Found(MemberValue::List(MemberList {
                 first: at,
                 params: TextRange { from: q, to: n },
-            }),
-            Read::Malformed => MemberFound::NotADictionary,
+            })),
+            Read::Malformed => ValueRead::Malformed,
         },
-        Read::Malformed => MemberFound::NotADictionary,
+        Read::Malformed => ValueRead::Malformed,
     }
 }
 
 // An item and its parameters.
-fn item_value(s: &[u8], at: usize) -> MemberFound
+fn item_value(s: &[u8], at: usize) -> ValueRead
     requires { ⌜ at ≤ length (now s) ⌝ }
     ensures { λ r. ⌜ IsValue (now (s .entry)) at r (loneOf (drop at (now (s .entry)))) ⌝ }
 {
@@ -146,19 +165,19 @@ fn item_value(s: &[u8], at: usize) -> MemberFound
             let item = f.range;
             let q = f.next;
             match items::params(s, q) {
-                Read::At(n) => MemberFound::Item(MemberItem {
+                Read::At(n) => ValueRead::Found(MemberValue::Item(MemberItem {
                     item,
                     params: TextRange { from: q, to: n },
-                }),
-                Read::Malformed => MemberFound::NotADictionary,
+                })),
+                Read::Malformed => ValueRead::Malformed,
             }
         }
-        ItemRead::Malformed => MemberFound::NotADictionary,
+        ItemRead::Malformed => ValueRead::Malformed,
     }
 }
 
 // The value past "=".
-fn value(s: &[u8], at: usize) -> MemberFound
+fn value(s: &[u8], at: usize) -> ValueRead
     requires { ⌜ at ≤ length (now s) ⌝ }
     ensures { λ r. ⌜ IsValue (now (s .entry)) at r (valueOf (drop at (now (s .entry)))) ⌝ }
 {
@@ -169,25 +188,25 @@ fn value(s: &[u8], at: usize) -> MemberFound
 }
 
 // The boolean true, which no byte of the text says, and the parameters that stand past a key.
-fn bare_key(s: &[u8], at: usize) -> MemberFound
+fn bare_key(s: &[u8], at: usize) -> ValueRead
     requires { ⌜ at ≤ length (now s) ⌝ }
     ensures { λ r. ⌜ IsValue (now (s .entry)) at r (bareKey (drop at (now (s .entry)))) ⌝ }
 {
     match items::params(s, at) {
-        Read::At(n) => MemberFound::Item(MemberItem {
+        Read::At(n) => ValueRead::Found(MemberValue::Item(MemberItem {
             item: ItemRange {
                 kind: ItemKind::Other,
                 from: at,
                 to: at,
             },
             params: TextRange { from: at, to: n },
-        }),
-        Read::Malformed => MemberFound::NotADictionary,
+        })),
+        Read::Malformed => ValueRead::Malformed,
     }
 }
 
 // The value past a key.
-fn assigned(s: &[u8], at: usize) -> MemberFound
+fn assigned(s: &[u8], at: usize) -> ValueRead
     requires { ⌜ at ≤ length (now s) ⌝ }
     ensures { λ r. ⌜ IsValue (now (s .entry)) at r (assignedOf (drop at (now (s .entry)))) ⌝ }
 {
@@ -197,38 +216,40 @@ fn assigned(s: &[u8], at: usize) -> MemberFound
     bare_key(s, at)
 }
 
-// The member at a place.
-fn member_at(s: &[u8], at: usize) -> MemberAt
+// Where a value and its parameters end.
+fn end_of(v: MemberValue) -> usize
+    ensures { λ r. ⌜ r ≡ endOf v ⌝ }
+{
+    match v {
+        MemberValue::Item(m) => {
+            let p = m.params;
+            p.to
+        }
+        MemberValue::List(m) => {
+            let p = m.params;
+            p.to
+        }
+    }
+}
+
+// The member at a place, and the place past it.
+fn member_at(s: &[u8], at: usize) -> MemberRead
     requires { ⌜ at ≤ length (now s) ⌝ }
     ensures { λ r. ⌜ IsMember (now (s .entry)) at r (memberOf (drop at (now (s .entry)))) ⌝ }
 {
     match items::key(s, at) {
-        Read::At(q) => {
-            let v = assigned(s, q);
-            MemberAt { to: q, value: v }
-        }
-        Read::Malformed => MemberAt {
-            to: at,
-            value: MemberFound::NotADictionary,
+        Read::At(q) => match assigned(s, q) {
+            ValueRead::Found(value) => {
+                let next = end_of(value);
+                MemberRead::Found(MemberAt {
+                    key: TextRange { from: at, to: q },
+                    value,
+                    next,
+                })
+            }
+            ValueRead::Malformed => MemberRead::Malformed,
         },
-    }
-}
-
-// Where a member ends.
-fn end_of(v: MemberFound) -> Read
-    ensures { λ r. ⌜ r ≡ endOf v ⌝ }
-{
-    match v {
-        MemberFound::Item(m) => {
-            let p = m.params;
-            Read::At(p.to)
-        }
-        MemberFound::List(m) => {
-            let p = m.params;
-            Read::At(p.to)
-        }
-        MemberFound::Absent => Read::Malformed,
-        MemberFound::NotADictionary => Read::Malformed,
+        Read::Malformed => MemberRead::Malformed,
     }
 }
 
@@ -252,69 +273,72 @@ fn parted(s: &[u8], at: usize) -> Turn
     Turn::More(q)
 }
 
-// A member and what stands past it.
-fn dict_turn(s: &[u8], at: usize, m: MemberAt) -> Turn
-    requires { ⌜ (at ≤ length (now s)) × IsMember (now s) at m (memberOf (drop at (now s))) ⌝ }
-    ensures { λ r. ⌜ IsTurn (now (s .entry)) at r (dictTurn (drop at (now (s .entry)))) ⌝ }
+// The member at a cursor, 0 at the start of a text.
+pub fn next_member(s: &[u8], cursor: usize) -> NextMember
+    ensures { λ r. ⌜ IsNext (now (s .entry)) cursor r ⌝ }
 {
-    let v = m.value;
-    match end_of(v) {
-        Read::At(q) => parted(s, q),
-        Read::Malformed => Turn::Malformed,
+    let i = ascii::run_end(s, cursor, Class::Space);
+    if s.len() <= i {
+        return NextMember::End;
     }
-}
-
-// The member at a place if its key is the one asked for, else the newest so far.
-fn newer(s: &[u8], at: usize, m: MemberAt, key: &[u8], best: MemberFound) -> MemberFound
-    requires { ⌜ IsMember (now s) at m (memberOf (drop at (now s))) ⌝ }
-    ensures { λ r. ⌜ r ≡ into (newest (now (s .entry)) (now (key .entry))) best (oneOf (memberOf (drop at (now (s .entry))))) ⌝ }
-{
-    let v = m.value;
-    let to = m.to;
-    match end_of(v) {
-        Read::At(_) => {
-            if ascii::same(ascii::part(s, at, to), key) {
-                v
-            } else {
-                best
+    match member_at(s, i) {
+        MemberRead::Found(m) => {
+            let key = m.key;
+            let value = m.value;
+            match parted(s, m.next) {
+                Turn::More(next) => NextMember::Member(MemberAt { key, value, next }),
+                Turn::Done(next) => NextMember::Member(MemberAt { key, value, next }),
+                Turn::Malformed => NextMember::NotADictionary,
             }
         }
-        Read::Malformed => best,
+        MemberRead::Malformed => NextMember::NotADictionary,
     }
 }
 
-// The last member of a key, from the first member on.
-fn look(s: &[u8], at: usize, key: &[u8]) -> MemberFound
-    requires { ⌜ at ≤ length (now s) ⌝ }
-    ensures { λ r. ⌜ r ≡ answered (foldParsed (newest (now (s .entry)) (now (key .entry))) MemberFound.Absent (turnsOf dictTurn (drop at (now (s .entry))))) ⌝ }
+// A value, as the answer to a lookup.
+fn found(v: MemberValue) -> MemberFound
+    ensures { λ r. ⌜ r ≡ foundOf v ⌝ }
 {
-    let mut i = at;
-    let mut best = MemberFound::Absent;
-    loop {
-        let m = member_at(s, i);
-        best = newer(s, i, m, key, best);
-        match dict_turn(s, i, m) {
-            Turn::More(q) => i = q,
-            Turn::Done(_) => return best,
-            Turn::Malformed => return MemberFound::NotADictionary,
-        }
+    match v {
+        MemberValue::Item(m) => MemberFound::Item(m),
+        MemberValue::List(m) => MemberFound::List(m),
+    }
+}
+
+// The value of a member if its key is the one asked for, else the newest so far.
+fn newer(s: &[u8], m: MemberAt, key: &[u8], best: MemberFound) -> MemberFound
+    ensures { λ r. ⌜ r ≡ newerOf (now (s .entry)) m (now (key .entry)) best ⌝ }
+{
+    let k = m.key;
+    let v = m.value;
+    if ascii::same(ascii::part(s, k.from, k.to), key) {
+        found(v)
+    } else {
+        best
     }
 }
 
 // The last member of a key.
 pub fn member(s: &[u8], key: &[u8]) -> MemberFound
-    ensures { λ r. ⌜ r ≡ lastFound (now (s .entry)) (now (key .entry)) ⌝ }
+    ensures { λ r. ⌜ IsLast (now (s .entry)) (now (key .entry)) r ⌝ }
 {
-    let i = ascii::run_end(s, 0, Class::Space);
-    if s.len() <= i {
-        return MemberFound::Absent;
+    let mut cursor: usize = 0;
+    let mut best = MemberFound::Absent;
+    loop {
+        match next_member(s, cursor) {
+            NextMember::Member(m) => {
+                best = newer(s, m, key, best);
+                cursor = m.next;
+            }
+            NextMember::End => return best,
+            NextMember::NotADictionary => return MemberFound::NotADictionary,
+        }
     }
-    look(s, i, key)
 }
 
 // Whether the text is a dictionary.
 pub fn is_dictionary(s: &[u8]) -> bool
-    ensures { λ r. ⌜ r ≡ isSome (dictionary (now (s .entry))) ⌝ }
+    ensures { λ r. ⌜ r ≡ isSome (members (now (s .entry))) ⌝ }
 {
     match member(s, &s[0..0]) {
         MemberFound::NotADictionary => false,

@@ -1,9 +1,9 @@
 // The examples of RFC 8941's grammar and document 01's header rows, read by the library: one line for each.
+use ascii::TextRange;
 use declarations::Admission;
 use declarations::Setting;
 use dictionaries::ListItem;
 use dictionaries::MemberFound;
-use dictionaries::TextRange;
 use items::ItemKind;
 use items::ItemRange;
 use origins::OriginRange;

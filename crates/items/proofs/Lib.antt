@@ -1,3 +1,5 @@
-pub mod Cuts
+pub mod Ranges
 pub mod Suffixes
+pub mod Bytes
+pub mod ReadBack
 pub mod Laws

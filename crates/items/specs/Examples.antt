@@ -3,85 +3,85 @@ use Prim.Native.String.{String}
 use mathlib.Core.Path.{_≡_, refl}
 use mathlib.Core.List.{List, [], _∷_}
 use mathlib.Core.Bool.{Bool, true, false, _&&_}
-use Rattle.ascii.specs.Bytes.{pick}
-use Rattle.ascii.specs.Texts.{every}
+use Rattle.ascii.specs.Texts.{every, sameBytes}
 use Rattle.ascii.specs.Literals.{text}
-use Rattle.ascii.specs.Reading.{Parsed, isEmpty, headOf, headIs, next, skip, letLen, runOf, past, after, mapped, going, adding, onStep, turns}
+use Rattle.ascii.specs.Reading.{Parsed}
 use Rattle.ascii.specs.Reading.Parsed.{parsed, malformed}
-use Rattle.items.specs.Items.{Item, keyOf, tokenOf, booleanOf, bytesOf, fractionOf, unsignedOf, numberOf, stringTurn, stringOf, bareOf, paramOf, paramTurn, paramsOf, itemOf}
+use Rattle.items.specs.Items.{Item, paramsOf, itemOf}
 use Rattle.items.specs.Items.Item.{token, string, other}
+use Rattle.items.specs.Computing.{computing}
 
--- items that are neither token nor string, with parameters or without, read whole
-goodItems : List String
-goodItems =
-    "-0"
-    ∷ "123456789012345"
-    ∷ "123456789012.123"
-    ∷ "?1"
-    ∷ ":YQ==:"
-    ∷ "::"
-    ∷ ":==a:"
-    ∷ "007"
-    ∷ "1;x;y=1"
-    ∷ []
+-- a text, the item that it begins with and what is left; or it begins with none
+data Row : Type 0 where
+  item : String → Item → String → Row
+  noItem : String → Row
 
-abbrev isOther : Parsed Item → Bool
-isOther (parsed (token t) l) = false
-isOther (parsed (string t) l) = false
-isOther (parsed other l) = isEmpty l
-isOther malformed = false
+abbrev sameItem : Item → Item → Bool
+sameItem (token t) (token u) = sameBytes t u
+sameItem (string t) (string u) = sameBytes t u
+sameItem other other = true
+sameItem (token t) (string u) = false
+sameItem (token t) other = false
+sameItem (string t) (token u) = false
+sameItem (string t) other = false
+sameItem other (token u) = false
+sameItem other (string u) = false
 
-good-items : every (λ s. isOther (itemOf (text s))) goodItems ≡ true
-unfolding goodItems every isEmpty pick headOf headIs next skip letLen runOf past after mapped going adding onStep turns keyOf tokenOf booleanOf bytesOf fractionOf unsignedOf numberOf stringTurn stringOf bareOf paramOf paramTurn paramsOf itemOf
-good-items = refl
-
--- texts that begin with no item
-badItems : List String
-badItems =
-    "-"
-    ∷ ".5"
-    ∷ "+1"
-    ∷ "1."
-    ∷ "1.1234"
-    ∷ "1234567890123456"
-    ∷ "1234567890123.1"
-    ∷ "?2"
-    ∷ ":*:"
-    ∷ ":YQ=="
-    ∷ "\"a"
-    ∷ "\"\\n\""
-    ∷ "\"\u{7f}\""
-    ∷ "'b'"
-    ∷ "1;X"
-    ∷ "1;x=(2)"
-    ∷ "1;"
-    ∷ ""
-    ∷ []
+abbrev isRead : Item → String → Parsed Item → Bool
+isRead x left (parsed y l) = sameItem x y && sameBytes l (text left)
+isRead x left malformed = false
 
 abbrev isMalformed : Parsed Item → Bool
 isMalformed (parsed x l) = false
 isMalformed malformed = true
 
-bad-items : every (λ s. isMalformed (itemOf (text s))) badItems ≡ true
-unfolding badItems every pick headOf headIs next skip letLen runOf past after mapped going adding onStep turns keyOf tokenOf booleanOf bytesOf fractionOf unsignedOf numberOf stringTurn stringOf bareOf paramOf paramTurn paramsOf itemOf
-bad-items = refl
+abbrev right : Row → Bool
+right (item s x left) = isRead x left (itemOf (text s))
+right (noItem s) = isMalformed (itemOf (text s))
 
--- `a:b/c;q="x";z `: the token, and the space is left
-token-read : itemOf (text "a:b/c;q=\"x\";z ") ≡ parsed (token (text "a:b/c")) (text " ")
-unfolding pick headOf headIs next skip letLen runOf past after mapped going adding onStep turns keyOf tokenOf booleanOf bytesOf fractionOf unsignedOf numberOf stringTurn stringOf bareOf paramOf paramTurn paramsOf itemOf
-token-read = refl
+rows : List Row
+rows =
+    item "-0" other ""
+    ∷ item "123456789012345" other ""
+    ∷ item "123456789012.123" other ""
+    ∷ item "?1" other ""
+    ∷ item ":YQ==:" other ""
+    ∷ item "::" other ""
+    ∷ item ":==a:" other ""
+    ∷ item "007" other ""
+    ∷ item "1;x;y=1" other ""
+    -- no space before a parameter, so the number ends there
+    ∷ item "1 ;x" other " ;x"
+    -- a second point ends the number
+    ∷ item "1.2.3" other ".3"
+    ∷ item "a:b/c;q=\"x\";z " (token (text "a:b/c")) " "
+    -- a string's text is as written
+    ∷ item "\"a\\\"b\"" (string (text "a\\\"b")) ""
+    ∷ noItem "-"
+    ∷ noItem ".5"
+    ∷ noItem "+1"
+    ∷ noItem "1."
+    ∷ noItem "1.1234"
+    ∷ noItem "1234567890123456"
+    ∷ noItem "1234567890123.1"
+    ∷ noItem "?2"
+    ∷ noItem ":*:"
+    ∷ noItem ":YQ=="
+    ∷ noItem "\"a"
+    ∷ noItem "\"\\n\""
+    ∷ noItem "\"\u{7f}\""
+    ∷ noItem "'b'"
+    ∷ noItem "1;X"
+    ∷ noItem "1;x=(2)"
+    ∷ noItem "1;"
+    ∷ noItem ""
+    ∷ []
 
--- `"a\"b"`: the text is as written
-string-read : itemOf (text "\"a\\\"b\"") ≡ parsed (string (text "a\\\"b")) []
-unfolding pick headOf headIs next skip letLen runOf past after mapped going adding onStep turns keyOf tokenOf booleanOf bytesOf fractionOf unsignedOf numberOf stringTurn stringOf bareOf paramOf paramTurn paramsOf itemOf
-string-read = refl
+rows-right : every right rows ≡ true
+unfolding rows computing
+rows-right = refl
 
--- `1 ;x`: no space before a parameter, so the number ends there
-space-before : itemOf (text "1 ;x") ≡ parsed other (text " ;x")
-unfolding pick headOf headIs next skip letLen runOf past after mapped going adding onStep turns keyOf tokenOf booleanOf bytesOf fractionOf unsignedOf numberOf stringTurn stringOf bareOf paramOf paramTurn paramsOf itemOf
-space-before = refl
-
--- `1.2.3`: a second point ends the number
-second-point : itemOf (text "1.2.3") ≡ parsed other (text ".3")
-unfolding pick headOf headIs next skip letLen runOf past after mapped going adding onStep turns keyOf tokenOf booleanOf bytesOf fractionOf unsignedOf numberOf stringTurn stringOf bareOf paramOf paramTurn paramsOf itemOf
-second-point = refl
+-- parameters in order, repeated keys kept
+parameters-read : paramsOf (text ";a=x; b;a=\"y\" ;c") ≡ parsed (record { key = text "a"; value = token (text "x") } ∷ record { key = text "b"; value = other } ∷ record { key = text "a"; value = string (text "y") } ∷ []) (text " ;c")
+unfolding computing
+parameters-read = refl

@@ -35,8 +35,8 @@ itemBy kind.String t = string t
 itemBy kind.Other t = other
 
 -- the item that a range says
-unfoldable pub itemAs : List ℕ → ItemRange → Item
-itemAs s p = itemBy (p .kind) (partOf s (p .from) (p .to))
+unfoldable pub itemIn : List ℕ → ItemRange → Item
+itemIn s p = itemBy (p .kind) (partOf s (p .from) (p .to))
 
 -- the place past an item
 abbrev pub endOf : ItemRead → Read

@@ -1,10 +1,10 @@
 -- RFC 8941 section 4.2: keys, bare items, parameters, items, read from the front of a text.
 use Prim.Native.Nat.{ℕ}
 use mathlib.Core.List.{List, [], _∷_}
-use mathlib.Core.Bool.{Bool, _||_}
+use mathlib.Core.Bool.{Bool, not, _&&_, _||_}
 use lib.ListN.{take}
 use lib.Dec.{leb, eqb}
-use Rattle.ascii.specs.Bytes.{pick, isKeyStart, isKeyByte, isTokenStart, isTokenByte, isBase64, isText, isDigit}
+use Rattle.ascii.specs.Bytes.{pick, isKeyStart, isKeyByte, isTokenStart, isTokenByte, isBase64, isText, isDigit, isSpace}
 use Rattle.ascii.specs.Reading.{Parsed, Step, headOf, headIs, next, skip, letLen, runOf, past, after, mapped, going, turnsOf}
 use Rattle.ascii.specs.Reading.Parsed.{parsed, malformed}
 use Rattle.ascii.specs.Reading.Step.{more, done, fail}
@@ -18,9 +18,6 @@ pub data Item : Type 0 where
 pub record Parameter : Type 0 where
   pub key : List ℕ
   pub value : Item
-
-abbrev pub isSpace : ℕ → Bool
-isSpace b = eqb b 32
 
 -- 4.2.3.3, a key
 unfoldable pub keyOf : List ℕ → Parsed (List ℕ)
@@ -72,6 +69,10 @@ numberOf l = pick (eqb (headOf l) 45) (next l (λ m. unsignedOf m)) (unsignedOf 
 -- 4.2.5, one character of a string, or its end: "\" stands before a quote or another "\" only
 abbrev pub isEscaped : ℕ → Bool
 isEscaped b = eqb b 34 || eqb b 92
+
+-- 4.1.6, a character that needs no "\" before it
+abbrev pub isUnescaped : ℕ → Bool
+isUnescaped b = isText b && not (isEscaped b)
 
 unfoldable pub stringTurn : List ℕ → Step ℕ
 stringTurn l =

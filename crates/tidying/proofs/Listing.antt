@@ -10,11 +10,12 @@ use Rattle.origins.specs.Expressions.{SourceExpression}
 use Rattle.origins.specs.Answers.{expressionIn}
 use Rattle.origins.specs.NormalForms.{normal, normalForm}
 use Rattle.origins.specs.declared.ExpressionRange.{ExpressionRange}
-use Rattle.items.specs.Found.{itemAs}
+use Rattle.items.specs.Found.{itemIn}
 use Rattle.items.specs.declared.ItemFound.{ItemFound}
 use Rattle.items.specs.declared.ItemRange.{ItemRange}
 use Rattle.dictionaries.specs.Lookup.{itemsFrom, IsPointed}
 use Rattle.dictionaries.specs.Written.{itemText}
+use Rattle.dictionaries.proofs.Written.{string-text}
 use Rattle.dictionaries.specs.declared.ListItem.{ListItem}
 use Rattle.dictionaries.specs.declared.ListItem.the-variants as list
 use Rattle.dictionaries.proofs.Laws.{items-item, items-end}
@@ -50,10 +51,9 @@ texts-new before e h = rw h
 
 -- the parts of a string, one after the other
 pub string-parts : (l : List ℕ) (at : ℕ) (any : Bool) (e : SourceExpression) (m n o z : List ℕ) (a c d q : ℕ) → Adding l at (pick any (text " ") []) m a → Adding m a (text "\"") n c → Adding n c (normalForm e) o d → Adding o d (text "\"") z q → Spelling (text " ") l at any (sourceText e ∷ []) z (record { to = q; any = true })
-unfolding itemText
 string-parts l at any e m n o z a c d q u v w y =
-    spelling-one (text " ") l at any m z (text "\"" ++ (normalForm e ++ text "\"")) a q u
-    (adding-on m n z a c q (text "\"") (normalForm e ++ text "\"") v (adding-on n o z c d q (normalForm e) (text "\"") w y))
+    rw (string-text (normalForm e)) (spelling-one (text " ") l at any m z (text "\"" ++ (normalForm e ++ text "\"")) a q u
+    (adding-on m n z a c q (text "\"") (normalForm e ++ text "\"") v (adding-on n o z c d q (normalForm e) (text "\"") w y)))
 
 -- an item's expressions, and then those of the others
 texts-more : (before : List SourceExpression) (m : Meaning) (es : List SourceExpression) → sourceTexts before (withSource m es) ≡ sourceTexts before (withSource m []) ++ sourceTexts (map normal (withSource m []) ++ before) es
@@ -68,25 +68,25 @@ texts-more before (source e) es = go (among (normal e) before)
     go false = unfold unless in refl
 
 -- an item, by its meaning
-module _ (s : List ℕ) (p : ItemRange) (first upto : ℕ) (l : List ℕ) (at : ℕ) (any : Bool) (r : ItemMeaning) (h : r ≡ meaningAs (meaningOf (itemAs s p))) where
+module _ (s : List ℕ) (p : ItemRange) (first upto : ℕ) (l : List ℕ) (at : ℕ) (any : Bool) (r : ItemMeaning) (h : r ≡ meaningAs (meaningOf (itemIn s p))) where
   nothing-added : (es : List SourceExpression) → es ≡ [] → ItemAdded s first upto es l at any l (record { to = at; any = any })
   nothing-added es e = record { adds = λ b g. rw (e, texts-none b) (spelling-none (text " ") l at any) }
 
-  pub item-all : r ≡ meaning.All → ItemAdded s first upto (withSource (meaningOf (itemAs s p)) []) l at any l (record { to = at; any = any })
+  pub item-all : r ≡ meaning.All → ItemAdded s first upto (withSource (meaningOf (itemIn s p)) []) l at any l (record { to = at; any = any })
   item-all k = nothing-added _ (adds-all s p [] r h k)
 
-  pub item-own : r ≡ meaning.Own → ItemAdded s first upto (withSource (meaningOf (itemAs s p)) []) l at any l (record { to = at; any = any })
+  pub item-own : r ≡ meaning.Own → ItemAdded s first upto (withSource (meaningOf (itemIn s p)) []) l at any l (record { to = at; any = any })
   item-own k = nothing-added _ (adds-own s p [] r h k)
 
-  pub item-nothing : r ≡ meaning.Nothing → ItemAdded s first upto (withSource (meaningOf (itemAs s p)) []) l at any l (record { to = at; any = any })
+  pub item-nothing : r ≡ meaning.Nothing → ItemAdded s first upto (withSource (meaningOf (itemIn s p)) []) l at any l (record { to = at; any = any })
   item-nothing k = nothing-added _ (adds-nothing s p [] r h k)
 
   module _ (e : ExpressionRange) (x : List ℕ) (i : x ≡ partOf s (p .from) (p .to)) (k : r ≡ meaning.Source e) (b : Bool) (g : IsSeen s first upto (expressionIn x e) b) where
-    pub item-old : b ≡ true → ItemAdded s first upto (withSource (meaningOf (itemAs s p)) []) l at any l (record { to = at; any = any })
+    pub item-old : b ≡ true → ItemAdded s first upto (withSource (meaningOf (itemIn s p)) []) l at any l (record { to = at; any = any })
     item-old t =
         record { adds = λ before u. rw (adds-source s p [] r h e x i k, texts-old before (expressionIn x e) (sym (g .is before u) ∙ t)) (spelling-none (text " ") l at any) }
 
-    pub item-new : (z : List ℕ) (y : Added) → b ≡ false → Spelling (text " ") l at any (sourceText (expressionIn x e) ∷ []) z y → ItemAdded s first upto (withSource (meaningOf (itemAs s p)) []) l at any z y
+    pub item-new : (z : List ℕ) (y : Added) → b ≡ false → Spelling (text " ") l at any (sourceText (expressionIn x e) ∷ []) z y → ItemAdded s first upto (withSource (meaningOf (itemIn s p)) []) l at any z y
     item-new z y t u =
         record { adds = λ before j. rw (adds-source s p [] r h e x i k, texts-new before (expressionIn x e) (sym (g .is before j) ∙ t)) u }
 
@@ -102,10 +102,10 @@ pub listing-start : (s : List ℕ) (first : ℕ) (l : List ℕ) (at : ℕ) (any 
 listing-start s first l at any = record { texts = []; before = []; passed = before-none s first; spelt = spelling-none (text " ") l at any; rest = refl }
 
 module _ (s : List ℕ) (first c : ℕ) (l : List ℕ) (at : ℕ) (any : Bool) (m : List ℕ) (x : Added) (g : Listing s first c l at any m x) (r : ListItem) (p : IsPointed s c r) where
-  pub listing-on : (f : ItemFound) (n : List ℕ) (y : Added) → r ≡ list.Item f → ItemAdded s first c (withSource (meaningOf (itemAs s (f .range))) []) m (x .to) (x .any) n y → Listing s first (f .next) l at any n y
+  pub listing-on : (f : ItemFound) (n : List ℕ) (y : Added) → r ≡ list.Item f → ItemAdded s first c (withSource (meaningOf (itemIn s (f .range))) []) m (x .to) (x .any) n y → Listing s first (f .next) l at any n y
   unfolding sourcesOf
   listing-on f n y k a =
-      let w = meaningOf (itemAs s (f .range)) in
+      let w = meaningOf (itemIn s (f .range)) in
       let es = sourcesOf (itemsFrom s (f .next)) in
       let ts = sourceTexts (g .before) (withSource w []) in
       record {
@@ -130,7 +130,7 @@ module _ (s : List ℕ) (c : Cursor) (l : List ℕ) (at : ℕ) (any : Bool) wher
   unfolding itemsAt sourcesOf
   no-sources k = rw (k, texts-none []) (spelling-none (text " ") l at any)
 
-  pub lone-source : (p : ItemRange) (m : List ℕ) (x : Added) → c ≡ cursor.Item p → ItemAdded s 0 0 (withSource (meaningOf (itemAs s p)) []) l at any m x → Spelling (text " ") l at any (sourceTexts [] (sourcesOf (itemsAt s c))) m x
+  pub lone-source : (p : ItemRange) (m : List ℕ) (x : Added) → c ≡ cursor.Item p → ItemAdded s 0 0 (withSource (meaningOf (itemIn s p)) []) l at any m x → Spelling (text " ") l at any (sourceTexts [] (sourcesOf (itemsAt s c))) m x
   unfolding itemsAt sourcesOf
   lone-source p m x k a = rw k (a .adds [] (before-none s 0))
 

@@ -16,7 +16,8 @@ use Rattle.features.specs.declared.Name.{Name}
 use Rattle.origins.specs.NormalForms.{normal}
 use Rattle.items.specs.Items.{Item}
 use Rattle.dictionaries.specs.Dictionaries.{Plain}
-use Rattle.dictionaries.specs.Written.{joinedBy, itemText, valueText, memberText, written}
+use Rattle.dictionaries.specs.Written.{joinedBy, itemText, valueText, memberText}
+use Rattle.dictionaries.proofs.Written.{joined-first, token-text, item-text, list-text, member-text, members-text}
 use Rattle.declarations.specs.Allowlists.{Allowlist, sourcesOf, allowlist}
 use Rattle.declarations.specs.Declarations.{declares}
 use Rattle.declarations.specs.Settings.{itemsAt, settingAs, IsSettled}
@@ -32,21 +33,21 @@ use Rattle.tidying.proofs.Spellings.{spelling-none, spelling-one, spell
 
 -- `self` first, and then the others
 self-first : (own : Bool) (xs : List Item) → joinedBy (text " ") (map itemText (selfItem own ++ xs)) ≡ pick own (text "self") [] ++ following own (text " ") (map itemText xs)
-unfolding selfItem pick following joinedBy
-self-first true xs = unfold itemText in refl
+unfolding selfItem pick following
+self-first true xs = simp (joined-first, token-text)
 self-first false xs = refl
 
 value-is : (s : List ℕ) (d : Setting) → d .all ≡ false → valueText (listOf s d) ≡ text "(" ++ ((pick (d .own) (text "self") [] ++ following (d .own) (text " ") (sourceTexts [] (sourcesOf (itemsAt s (d .items))))) ++ text ")")
-unfolding allowlist pick tidyValue valueText sourceTexts
+unfolding allowlist pick tidyValue sourceTexts
 value-is s d k =
-    rw k
+    rw (k, list-text)
     (ap (λ (t : List ℕ). text "(" ++ (t ++ text ")")) (self-first (d .own) (map sourceItem (onceAfter [] (map normal (sourcesOf (itemsAt s (d .items))))))))
 
 -- an allowlist, by its mark
 module _ (s : List ℕ) (d : Setting) (l z : List ℕ) (at r : ℕ) where
   pub value-all : d .all ≡ true → Adding l at (text "*") z r → Adding l at (valueText (listOf s d)) z r
-  unfolding allowlist pick tidyValue valueText itemText
-  value-all k h = rw k h
+  unfolding allowlist pick tidyValue
+  value-all k h = rw (k, item-text, token-text) h
 
   pub value-list : (m n o : List ℕ) (a b : ℕ) (x : Added) → d .all ≡ false → Adding l at (text "(") m a → Adding m a (pick (d .own) (text "self") []) n b → Spelling (text " ") n b (d .own) (sourceTexts [] (sourcesOf (itemsAt s (d .items)))) o x → Adding o (x .to) (text ")") z r → Adding l at (valueText (listOf s d)) z r
   value-list m n o a b x k u v w y =
@@ -67,9 +68,9 @@ module _ (s : List ℕ) (d : Setting) (n : ℕ) (l : List ℕ) (at : ℕ) (any :
   member-none k = rw (not-true (d .declared) k) (spelling-none (text ", ") l at any)
 
   pub member-some : (m o z : List ℕ) (a b r : ℕ) → not (d .declared) ≡ false → Adding l at (pick any (text ", ") []) m a → Adding m a (nameOf n ++ text "=") o b → Adding o b (valueText (listOf s d)) z r → Spelling (text ", ") l at any (map memberText (withMember n (settingAs s d) [])) z (record { to = r; any = true })
-  unfolding settingAs pick withMember memberText
+  unfolding settingAs pick withMember
   member-some m o z a b r k u v w =
-      rw (not-false (d .declared) k)
+      simp (not-false (d .declared) k, member-text)
       (spelling-one (text ", ") l at any m z (nameOf n ++ (text "=" ++ valueText (listOf s d))) a r u
       (rw (append-assoc (nameOf n) (text "=") (valueText (listOf s d))) at (adding-on m o z a b r (nameOf n ++ text "=") (valueText (listOf s d)) v w)))
 
@@ -111,8 +112,8 @@ module _ (s : List ℕ) (i : ℕ) (l m : List ℕ) (x : Added) (g : Filling s i 
       }
 
   pub filling-end : featureCount ≤ i → Adding l 0 (tidied s) m (x .to)
-  unfolding tidied written following
+  unfolding tidied following
   filling-end h =
       let e : g .texts ++ [] ≡ map memberText (tidyMembers (declares s)) = rw (from-none (declares s) i h) at (g .rest) in
       let f : g .texts ≡ map memberText (tidyMembers (declares s)) = sym (append-nil (g .texts)) ∙ e in
-      rw f at (g .spelt .text)
+      rw members-text (rw f at (g .spelt .text))

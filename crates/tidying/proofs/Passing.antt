@@ -12,7 +12,7 @@ use Rattle.origins.specs.Expressions.{SourceExpression}
 use Rattle.origins.specs.Answers.{expressionIn}
 use Rattle.origins.specs.NormalForms.{normal, sameExpression}
 use Rattle.origins.specs.declared.ExpressionRange.{ExpressionRange}
-use Rattle.items.specs.Found.{itemAs}
+use Rattle.items.specs.Found.{itemIn}
 use Rattle.items.specs.declared.ItemFound.{ItemFound}
 use Rattle.items.specs.declared.ItemRange.{ItemRange}
 use Rattle.dictionaries.specs.Lookup.{cursorAt, IsPointed}
@@ -29,20 +29,20 @@ use Rattle.tidying.specs.Steps.{Between, Before, IsSeen}
 use Rattle.tidying.specs.Steps.Between.{here, step}
 
 -- whether an item is an expression of the same normal form
-module _ (s : List ℕ) (p : ItemRange) (e : SourceExpression) (r : ItemMeaning) (h : r ≡ meaningAs (meaningOf (itemAs s p))) where
-  pub is-all : r ≡ meaning.All → false ≡ among (normal e) (map normal (withSource (meaningOf (itemAs s p)) []))
+module _ (s : List ℕ) (p : ItemRange) (e : SourceExpression) (r : ItemMeaning) (h : r ≡ meaningAs (meaningOf (itemIn s p))) where
+  pub is-all : r ≡ meaning.All → false ≡ among (normal e) (map normal (withSource (meaningOf (itemIn s p)) []))
   unfolding among
   is-all k = rw (adds-all s p [] r h k)
 
-  pub is-own : r ≡ meaning.Own → false ≡ among (normal e) (map normal (withSource (meaningOf (itemAs s p)) []))
+  pub is-own : r ≡ meaning.Own → false ≡ among (normal e) (map normal (withSource (meaningOf (itemIn s p)) []))
   unfolding among
   is-own k = rw (adds-own s p [] r h k)
 
-  pub is-nothing : r ≡ meaning.Nothing → false ≡ among (normal e) (map normal (withSource (meaningOf (itemAs s p)) []))
+  pub is-nothing : r ≡ meaning.Nothing → false ≡ among (normal e) (map normal (withSource (meaningOf (itemIn s p)) []))
   unfolding among
   is-nothing k = rw (adds-nothing s p [] r h k)
 
-  pub is-source : (f : ExpressionRange) (y : List ℕ) (b : Bool) → b ≡ sameExpression (normal e) (normal (expressionIn y f)) → y ≡ partOf s (p .from) (p .to) → r ≡ meaning.Source f → b ≡ among (normal e) (map normal (withSource (meaningOf (itemAs s p)) []))
+  pub is-source : (f : ExpressionRange) (y : List ℕ) (b : Bool) → b ≡ sameExpression (normal e) (normal (expressionIn y f)) → y ≡ partOf s (p .from) (p .to) → r ≡ meaning.Source f → b ≡ among (normal e) (map normal (withSource (meaningOf (itemIn s p)) []))
   unfolding among
   is-source f y b g m k = rw (adds-source s p [] r h f y m k, or-false (sameExpression (normal e) (normal (expressionIn y f)))) g
 
@@ -58,7 +58,7 @@ among-append e (x ∷ xs) ys = rw (among-append e xs ys) (go (sameExpression e x
 
 -- what an item adds
 abbrev itemNormals : List ℕ → ItemFound → List SourceExpression
-itemNormals s f = map normal (withSource (meaningOf (itemAs s (f .range))) [])
+itemNormals s f = map normal (withSource (meaningOf (itemIn s (f .range))) [])
 
 -- cursors go up
 between-le : (s : List ℕ) {c d : ℕ} {es : List SourceExpression} → Between s c d es → c ≤ d
@@ -120,7 +120,7 @@ module _ (s : List ℕ) (first upto c : ℕ) (e : SourceExpression) (u : Unseen 
     pub unseen-end : r ≡ list.End → IsSeen s first upto e false
     unseen-end k = record { is = λ b g. absurd (no-further s (u .left b g .between) n (sym (p .is) ∙ k)) }
 
-    module _ (f : ItemFound) (k : r ≡ list.Item f) (y : Bool) (h : y ≡ among (normal e) (map normal (withSource (meaningOf (itemAs s (f .range))) []))) where
+    module _ (f : ItemFound) (k : r ≡ list.Item f) (y : Bool) (h : y ≡ among (normal e) (map normal (withSource (meaningOf (itemIn s (f .range))) []))) where
       turn : (b : List SourceExpression) → Before s first upto b → Turned s upto f (normal e) y (among (normal e) b)
       turn b g =
           let x = u .left b g in
@@ -146,7 +146,7 @@ or-swap : (a b : Bool) → a || b ≡ b || a
 or-swap true b = sym (or-true b)
 or-swap false b = sym (or-false b)
 
-pub before-on : (s : List ℕ) (first c : ℕ) (before : List SourceExpression) (r : ListItem) (f : ItemFound) → Before s first c before → IsPointed s c r → r ≡ list.Item f → Before s first (f .next) (map normal (withSource (meaningOf (itemAs s (f .range))) []) ++ before)
+pub before-on : (s : List ℕ) (first c : ℕ) (before : List SourceExpression) (r : ListItem) (f : ItemFound) → Before s first c before → IsPointed s c r → r ≡ list.Item f → Before s first (f .next) (map normal (withSource (meaningOf (itemIn s (f .range))) []) ++ before)
 before-on s first c before r f g p k =
     record {
       passed = g .passed ++ itemNormals s f;

@@ -31,7 +31,7 @@ use Rattle.dictionaries.specs.Lookup.{into, later, lastValueIn}
 use Rattle.dictionaries.specs.Written.{All, GoodKey, GoodToken, GoodItem, GoodValue, GoodMember, AllGood, written}
 use Rattle.dictionaries.specs.Written.All.{empty, and}
 use Rattle.dictionaries.proofs.Laws.{last-fold, fold-nil, fold-same, fold-other}
-use Rattle.dictionaries.proofs.Back.{written-back}
+use Rattle.dictionaries.proofs.ReadBack.{written-back}
 use Rattle.declarations.specs.Allowlists.{Allowlist, anyAdmits, listAdmits, allows}
 use Rattle.declarations.specs.Allowlists.Allowlist.{all, listed}
 use Rattle.declarations.specs.Declarations.{valueDeclares, declares, isMalformed}

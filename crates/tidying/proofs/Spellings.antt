@@ -5,33 +5,33 @@ use mathlib.Core.List.{List, [], _∷_, _++_, append-assoc, append-nil}
 use mathlib.Core.Bool.{Bool, true, false, _||_}
 use Rattle.ascii.specs.Bytes.{pick}
 use Rattle.ascii.proofs.Bytes.{or-false, or-true}
-use Rattle.dictionaries.specs.Written.{eachAfter, joinedBy}
+use Rattle.dictionaries.specs.Written.{eachAfter}
+use Rattle.dictionaries.proofs.Written.{each-none, each-more, joined-none, joined-first}
 use Rattle.tidying.specs.Writing.{Adding}
 use Rattle.tidying.specs.Steps.{following, isSome, Spelling}
 use Rattle.tidying.specs.declared.Added.{Added}
 use Rattle.tidying.proofs.Growing.{adding-on, adding-none}
 
 after-append : (sep : List ℕ) (ts us : List (List ℕ)) → eachAfter sep (ts ++ us) ≡ eachAfter sep ts ++ eachAfter sep us
-unfolding eachAfter
-after-append sep [] us = refl
-after-append sep (t ∷ ts) us = rw (after-append sep ts us) (simp append-assoc)
+after-append sep [] us = rw each-none
+after-append sep (t ∷ ts) us = simp (each-more, after-append sep ts us, append-assoc)
 
 -- texts, and then others
 following-append : (any : Bool) (sep : List ℕ) (ts us : List (List ℕ)) → following any sep (ts ++ us) ≡ following any sep ts ++ following (any || isSome ts) sep us
 unfolding following isSome
 following-append true sep ts us = after-append sep ts us
-following-append false sep [] us = unfold joinedBy in refl
-following-append false sep (t ∷ ts) us = unfold joinedBy in rw (after-append sep ts us) (simp append-assoc)
+following-append false sep [] us = rw joined-none
+following-append false sep (t ∷ ts) us = simp (joined-first, after-append sep ts us, append-assoc)
 
 following-one : (any : Bool) (sep t : List ℕ) → following any sep (t ∷ []) ≡ pick any sep [] ++ t
-unfolding following pick eachAfter joinedBy
-following-one true sep t = simp append-nil
-following-one false sep t = simp append-nil
+unfolding following pick
+following-one true sep t = simp (each-more, each-none, append-nil)
+following-one false sep t = simp (joined-first, each-none, append-nil)
 
 following-none : (any : Bool) (sep : List ℕ) → following any sep [] ≡ []
-unfolding following eachAfter joinedBy
-following-none true sep = refl
-following-none false sep = refl
+unfolding following
+following-none true sep = each-none sep
+following-none false sep = joined-none sep
 
 some-append : {A : Type 0} (a : Bool) (xs ys : List A) → a || isSome (xs ++ ys) ≡ (a || isSome xs) || isSome ys
 unfolding isSome

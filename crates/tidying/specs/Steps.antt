@@ -8,7 +8,7 @@ use lib.Seq.{paste}
 use Rattle.ascii.specs.Literals.{text}
 use Rattle.origins.specs.Expressions.{SourceExpression}
 use Rattle.origins.specs.NormalForms.{normal}
-use Rattle.items.specs.Found.{itemAs}
+use Rattle.items.specs.Found.{itemIn}
 use Rattle.items.specs.declared.ItemFound.{ItemFound}
 use Rattle.dictionaries.specs.Dictionaries.{Value}
 use Rattle.dictionaries.specs.Lookup.{cursorAt}
@@ -48,7 +48,7 @@ pub record Spelling (sep before : List ℕ) (at : ℕ) (any : Bool) (ts : List (
 -- the normal forms of an inner list's expressions from a cursor up to another
 pub data Between (s : List ℕ) : ℕ → ℕ → List SourceExpression → Type 0 where
   here : (c : ℕ) → Between s c c []
-  step : (c d : ℕ) (f : ItemFound) (es : List SourceExpression) → cursorAt s c ≡ list.Item f → c < f .next → Between s (f .next) d es → Between s c d (map normal (withSource (meaningOf (itemAs s (f .range))) []) ++ es)
+  step : (c d : ℕ) (f : ItemFound) (es : List SourceExpression) → cursorAt s c ≡ list.Item f → c < f .next → Between s (f .next) d es → Between s c d (map normal (withSource (meaningOf (itemIn s (f .range))) []) ++ es)
 
 -- the same expressions, in whatever order
 pub record Before (s : List ℕ) (c d : ℕ) (before : List SourceExpression) : Type 0 where

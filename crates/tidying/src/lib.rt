@@ -11,7 +11,7 @@ ghost use Rattle.features.specs.Features.{nameOf};
 ghost use Rattle.origins.specs.Origins.{schemeText, schemeSlashes};
 ghost use Rattle.origins.specs.Answers.{expressionIn};
 ghost use Rattle.origins.specs.NormalForms.{normal, normalForm, portPartText};
-ghost use Rattle.items.specs.Found.{itemAs};
+ghost use Rattle.items.specs.Found.{itemIn};
 ghost use Rattle.dictionaries.specs.Lookup.{itemsFrom};
 ghost use Rattle.dictionaries.specs.Written.{valueText, memberText};
 ghost use Rattle.declarations.specs.Allowlists.{meaningOf, withSource, sourcesOf};
@@ -187,7 +187,7 @@ fn add_expression(buf: &mut [u8], at: usize, x: &[u8], e: ExpressionRange) -> us
 
 // Whether an item is an expression with the normal form of another, which stands in the text `x`.
 fn item_is(s: &[u8], item: ItemRange, x: &[u8], e: ExpressionRange) -> bool
-    ensures { λ r. ⌜ r ≡ among (normal (expressionIn (now (x .entry)) e)) (map normal (withSource (meaningOf (itemAs (now (s .entry)) item)) [])) ⌝ }
+    ensures { λ r. ⌜ r ≡ among (normal (expressionIn (now (x .entry)) e)) (map normal (withSource (meaningOf (itemIn (now (s .entry)) item)) [])) ⌝ }
 {
     match declarations::meaning(s, item) {
         ItemMeaning::All => false,
@@ -243,7 +243,7 @@ fn add_item(
     any: bool,
 ) -> Added
     requires { ⌜ length (now buf) ≡ textBytes ⌝ }
-    ensures { λ r. ⌜ ItemAdded (now (s .entry)) first upto (withSource (meaningOf (itemAs (now (s .entry)) item)) []) (now (buf .entry)) at any (now (buf .exit)) r ⌝ }
+    ensures { λ r. ⌜ ItemAdded (now (s .entry)) first upto (withSource (meaningOf (itemIn (now (s .entry)) item)) []) (now (buf .entry)) at any (now (buf .exit)) r ⌝ }
 {
     match declarations::meaning(s, item) {
         ItemMeaning::All => Added { to: at, any },

@@ -1,5 +1,5 @@
 -- Spaces, the end of the list or an item, and the byte past the item, as the definition reads them.
-use Rattle.items.proofs.Cuts.{end-found, end-none, found-low, found-high}
+use Rattle.items.proofs.Ranges.{end-found, end-none, found-low, found-high}
 use Rattle.ascii.proofs.Reading.{goings, lows, highs}
 use Rattle.dictionaries.specs.Dictionaries.{innerTurn}
 use borrow.Author.Needs.{needs}

@@ -1,5 +1,5 @@
 -- Whatever the key, the lookup says that a text is not a dictionary exactly if it is none.
-use Rattle.dictionaries.proofs.Members.{whether}
+use Rattle.dictionaries.proofs.Lookup.{whether}
 use borrow.Author.Needs.{needs}
 use Rattle.dictionaries.proofs.is_dictionary.Statement.{statement}
 use Rattle.dictionaries.proofs.is_dictionary.Tie as tie

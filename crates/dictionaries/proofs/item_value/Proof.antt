@@ -1,7 +1,7 @@
 -- A bare item is read, and its parameters from the place past it.
 use borrow.Author.Needs.{needs}
 use Rattle.ascii.proofs.Reading.{reads, lows, highs}
-use Rattle.items.proofs.Cuts.{end-found, end-none}
+use Rattle.items.proofs.Ranges.{end-found, end-none}
 use Rattle.dictionaries.specs.Dictionaries.{closedOf, loneOf}
 use Rattle.dictionaries.proofs.Values.{lones, from-item}
 use Rattle.dictionaries.proofs.item_value.Statement.{statement}

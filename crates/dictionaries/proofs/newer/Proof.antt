@@ -1,6 +1,6 @@
--- The member replaces the newest so far exactly if its key is the one asked for.
+-- The member's value replaces the newest so far exactly if its key is the one asked for.
 use borrow.Author.Needs.{needs}
-use Rattle.dictionaries.proofs.Members.{newers}
+use Rattle.dictionaries.proofs.Lookup.{newers}
 use Rattle.dictionaries.proofs.newer.Statement.{statement}
 use Rattle.dictionaries.proofs.newer.Tie as tie
 
@@ -9,10 +9,7 @@ newer-spec =
     tie.close
     (tie.spec
     (λ c κs. search needs)
-    (λ c. search needs)
     (λ c κs. search needs)
     (λ c κs. search needs)
-    (λ c. search needs)
-    (λ c. search newers)
     (λ c. search newers)
     (λ c. search newers))

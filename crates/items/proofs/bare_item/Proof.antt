@@ -1,7 +1,7 @@
 -- The kind follows from the first byte, and what was read up to the end of the bare item stood there.
 use borrow.Author.Needs.{needs}
 use Rattle.ascii.proofs.Reading.{lows, highs}
-use Rattle.items.proofs.Cuts.{founds, lefts}
+use Rattle.items.proofs.Ranges.{founds, lefts}
 use Rattle.items.proofs.bare_item.Statement.{statement}
 use Rattle.items.proofs.bare_item.Tie as tie
 

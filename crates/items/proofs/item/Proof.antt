@@ -2,7 +2,7 @@
 use borrow.Author.Needs.{needs}
 use Rattle.ascii.proofs.Reading.{reads, lows, highs}
 use Rattle.items.specs.Items.{itemOf}
-use Rattle.items.proofs.Cuts.{wholes, left-at, left-none, end-found, end-none, past-item}
+use Rattle.items.proofs.Ranges.{wholes, left-at, left-none, end-found, end-none, past-item}
 use Rattle.items.proofs.item.Statement.{statement}
 use Rattle.items.proofs.item.Tie as tie
 

@@ -1,78 +1,26 @@
 -- Members that are written are read back. Assumes nothing.
-use mathlib.Core.Path.{_≡_, refl, ap, _∙_, sym}
+use mathlib.Core.Path.{_≡_, refl}
 use Prim.Native.Nat.{ℕ, zero, suc, _≤_, _<_}
 use mathlib.Core.List.{List, [], _∷_, _++_, map, append-assoc}
-use mathlib.Core.Bool.{Bool, true, false, not, _||_}
+use mathlib.Core.Bool.{true, false, _||_}
 use mathlib.Core.Option.{some}
 use native.Mathlib.Omega.{arith}
 use lib.ListN.{length, length-append, length-map}
 use lib.Dec.{eqb}
-use borrow.Author.Tests.{eqb-true}
-use Rattle.ascii.specs.Bytes.{pick, isKeyStart, isKeyByte, isTokenStart, isTokenByte, isText}
+use Rattle.ascii.specs.Bytes.{pick, isKeyStart, isTokenStart, isTokenByte, isSpace, isBlank}
 use Rattle.ascii.specs.Literals.{text}
 use Rattle.ascii.specs.Texts.{every}
 use Rattle.ascii.specs.Reading.{headOf, headIs, isEmpty, next, skip, past, after, mapped, going, adding, onStep, turns}
 use Rattle.ascii.specs.Reading.Parsed.{parsed}
 use Rattle.ascii.specs.Reading.Step.{more, done}
-use Rattle.ascii.proofs.Bytes.{and-left, and-right}
-use Rattle.ascii.proofs.Texts.{every-run, every-past}
-use Rattle.items.specs.Items.{Item, isSpace, isEscaped, keyOf, tokenOf, stringTurn, stringOf, bareOf, paramTurn, paramsOf, itemOf}
+use Rattle.ascii.proofs.Texts.{every-past}
+use Rattle.items.specs.Items.{Item, bareOf, itemOf}
 use Rattle.items.specs.Items.Item.{token, string, other}
-use Rattle.dictionaries.specs.Dictionaries.{Value, Placed, Member, Plain, isBlank, innerTurn, innerOf, closedOf, listOf, loneOf, valueOf, assignedOf, memberOf, partedOf, dictTurn, readAll, dataOf, dictionary, plains, plainly, members}
+use Rattle.items.proofs.ReadBack.{differs, starts-on, key-back, params-none, token-back, string-back, bare-item}
+use Rattle.dictionaries.specs.Dictionaries.{Value, Placed, Member, Plain, innerTurn, innerOf, closedOf, listOf, loneOf, valueOf, assignedOf, memberOf, partedOf, dictTurn, readAll, dataOf, dictionary, plains, plainly, members}
 use Rattle.dictionaries.specs.Dictionaries.Value.{one, many}
-use Rattle.dictionaries.specs.Lookup.{isSome}
-use Rattle.dictionaries.specs.Written.{eachAfter, joinedBy, itemText, valueText, memberText, written, GoodKey, isUnescaped, GoodItem, All, GoodValue, GoodMember, AllGood}
+use Rattle.dictionaries.specs.Written.{eachAfter, joinedBy, itemText, valueText, memberText, written, GoodItem, All, GoodValue, GoodMember, AllGood}
 use Rattle.dictionaries.specs.Written.All.{and}
-
--- RFC 8941 section 4.1.2: where more remain, the separator is appended, and they
-pub joined-more : (c t u : List ℕ) (us : List (List ℕ)) → joinedBy c (t ∷ u ∷ us) ≡ t ++ (c ++ joinedBy c (u ∷ us))
-unfolding joinedBy eachAfter
-joined-more c t u us = refl
-
--- a byte of a class is none that the class lacks
-differs : (p : ℕ → Bool) (x c : ℕ) → p x ≡ true → p c ≡ false → eqb x c ≡ false
-differs p x c h k = go (eqb x c) refl
-  where
-    go : (b : Bool) → eqb x c ≡ b → b ≡ false
-    go true e = sym h ∙ (ap p (eqb-true x c e) ∙ k)
-    go false e = refl
-
--- a text whose first byte is of a class is not empty, so what follows it does not change its first byte
-starts-on : (p : ℕ → Bool) (t ys : List ℕ) → headIs p t ≡ true → p 0 ≡ false → headOf (t ++ ys) ≡ headOf t
-unfolding headIs headOf
-starts-on p [] ys h z = absurd (let w : _≡_ {A = ℕ} 0 1 = cc in omega arith)
-starts-on p (x ∷ xs) ys h z = refl
-
--- a key is read whole, and a byte that is not of a key ends it
-key-back : (k ys : List ℕ) → GoodKey k → isKeyByte (headOf ys) ≡ false → keyOf (k ++ ys) ≡ parsed k ys
-unfolding keyOf pick headIs
-key-back k ys g e =
-    simp (starts-on isKeyStart k ys (g .starts) refl, g .starts, every-run isKeyByte k ys (g .bytes) e, every-past isKeyByte k ys (g .bytes) e)
-
--- a byte of a string that needs no escape
-module _ (x : ℕ) (h : isUnescaped x ≡ true) where
-  is-text : isText x ≡ true
-  is-text = and-left (isText x) (not (isEscaped x)) h
-
-  no-quote : eqb x 34 ≡ false
-  no-quote = differs isUnescaped x 34 h refl
-
-  no-backslash : eqb x 92 ≡ false
-  no-backslash = differs isUnescaped x 92 h refl
-
--- the characters of a string, up to its quote
-string-turns : (t ys : List ℕ) (n : ℕ) → every isUnescaped t ≡ true → length t < n → turns stringTurn n (t ++ (34 ∷ ys)) ≡ parsed t ys
-unfolding every turns onStep adding stringTurn headOf headIs pick next
-string-turns t ys zero a h = absurd (omega arith)
-string-turns [] ys (suc n) a h = refl
-string-turns (x ∷ xs) ys (suc n) a h =
-    let u : isUnescaped x ≡ true = and-left (isUnescaped x) (every isUnescaped xs) a in
-    simp (no-backslash x u, no-quote x u, is-text x u, string-turns xs ys n (and-right (isUnescaped x) (every isUnescaped xs) a) (omega arith))
-
--- no parameters
-params-none : (ys : List ℕ) → eqb (headOf ys) 59 ≡ false → paramsOf ys ≡ parsed [] ys
-unfolding paramsOf turns onStep paramTurn pick
-params-none ys e = rw e
 
 -- what follows an item: a byte that no item goes on with
 record Ends (ys : List ℕ) : Type 0 where
@@ -81,16 +29,13 @@ record Ends (ys : List ℕ) : Type 0 where
 
 -- an item is read back, wherever it stands before such a byte
 bare-back : (x : Item) (ys : List ℕ) → GoodItem x → Ends ys → bareOf (itemText x ++ ys) ≡ parsed x ys
-unfolding itemText bareOf tokenOf stringOf pick next after mapped headOf headIs
-bare-back (token t) ys g e =
-    simp
-    (starts-on isTokenStart t ys (g .starts) refl, differs isTokenStart (headOf t) 34 (g .starts) refl, g .starts, every-run isTokenByte t ys (g .bytes) (e .token), every-past isTokenByte t ys (g .bytes) (e .token))
-bare-back (string t) ys g e = simp (append-assoc, string-turns t ys (suc (length (t ++ (34 ∷ ys)))) g (simp length-append (omega arith)))
+unfolding itemText
+bare-back (token t) ys g e = token-back t ys (g .starts) (g .bytes) (e .token)
+bare-back (string t) ys g e = simp append-assoc (string-back t ys g)
 bare-back other ys g e = absurd g
 
 item-back : (x : Item) (ys : List ℕ) → GoodItem x → Ends ys → itemOf (itemText x ++ ys) ≡ parsed x ys
-unfolding itemOf after mapped
-item-back x ys g e = simp (bare-back x ys g e, params-none ys (e .params))
+item-back x ys g e = bare-item (itemText x ++ ys) x ys (bare-back x ys g e) (e .params)
 
 -- the first byte of an item starts a token, or is a quote
 item-head : (x : Item) (ys : List ℕ) → GoodItem x → (c : ℕ) → isTokenStart c ≡ false → eqb 34 c ≡ false → eqb (headOf (itemText x ++ ys)) c ≡ false
@@ -152,30 +97,32 @@ inner-back (x ∷ xs) ys (and g a) =
     simp (append-assoc, inner-turn x l g (items-part xs ys), list-turns xs ys (length (itemText x ++ l)) a (simp length-append (omega (arith, length-map xs itemText, each-long 32 [] (map itemText xs)))))
 
 -- where a value stands that is written before a text
-unfoldable pub placedIn : Value → List ℕ → Placed
-placedIn (one x) ys = record { value = one x; start = length (itemText x ++ ys); params = length ys; end = length ys }
-placedIn (many xs) ys =
+unfoldable placedBefore : Value → List ℕ → Placed
+placedBefore (one x) ys =
+    record { value = one x; parameters = []; start = length (itemText x ++ ys); paramsFrom = length ys; paramsTo = length ys }
+placedBefore (many xs) ys =
     record {
       value = many xs;
+      parameters = ([]);
       start = length (joinedBy (text " ") (map itemText xs) ++ (41 ∷ ys));
-      params = length ys;
-      end = length ys;
+      paramsFrom = length ys;
+      paramsTo = length ys;
     }
 
 -- a value is read back
-value-back : (v : Value) (ys : List ℕ) → GoodValue v → Ends ys → valueOf (valueText v ++ ys) ≡ parsed (placedIn v ys) ys
-unfolding valueText placedIn valueOf loneOf listOf closedOf pick next after headOf
+value-back : (v : Value) (ys : List ℕ) → GoodValue v → Ends ys → valueOf (valueText v ++ ys) ≡ parsed (placedBefore v ys) ys
+unfolding valueText placedBefore valueOf loneOf listOf closedOf pick next after headOf
 value-back (one x) ys g e = simp (item-head x ys g 40 refl refl, bare-back x ys g e, params-none ys (e .params))
 value-back (many xs) ys g e = simp (append-assoc, inner-back xs ys g, params-none ys (e .params))
 
 -- where a member stands
-unfoldable pub memberIn : Plain → List ℕ → Member
-memberIn m ys = record { key = m .key; placed = placedIn (m .value) ys }
+unfoldable memberBefore : Plain → List ℕ → Member
+memberBefore m ys = record { key = m .key; from = length (memberText m ++ ys); placed = placedBefore (m .value) ys }
 
 -- a member is read back
-member-back : (m : Plain) (ys : List ℕ) → GoodMember m → Ends ys → memberOf (memberText m ++ ys) ≡ parsed (memberIn m ys) ys
-unfolding memberText memberIn memberOf assignedOf pick next after mapped headOf
-member-back m ys g e = simp (append-assoc, key-back (m .key) (61 ∷ (valueText (m .value) ++ ys)) (g .key) refl, value-back (m .value) ys (g .value) e)
+member-back : (m : Plain) (ys : List ℕ) → GoodMember m → Ends ys → memberOf (memberText m ++ ys) ≡ parsed (memberBefore m ys) ys
+unfolding memberText memberBefore memberOf assignedOf pick next after mapped headOf
+member-back m ys g e = simp (append-assoc, key-back (m .key) (61 ∷ (valueText (m .value) ++ ys)) (g .key .starts) (g .key .bytes) refl, value-back (m .value) ys (g .value) e)
 
 -- the first byte of a member starts a key
 member-head : (m : Plain) (ys : List ℕ) → GoodMember m → (c : ℕ) → isKeyStart c ≡ false → eqb (headOf (memberText m ++ ys)) c ≡ false
@@ -193,11 +140,11 @@ full [] e = e
 full (x ∷ xs) e = refl
 
 -- the last member, and one that another follows
-dict-last : (m : Plain) → GoodMember m → dictTurn (memberText m ++ []) ≡ done (memberIn m [] ∷ []) []
+dict-last : (m : Plain) → GoodMember m → dictTurn (memberText m ++ []) ≡ done (memberBefore m [] ∷ []) []
 unfolding dictTurn partedOf going skip past pick isEmpty headOf
 dict-last m g = simp (member-back m [] g (record { token = refl; params = refl }))
 
-dict-more : (m k : Plain) (ys : List ℕ) → GoodMember m → GoodMember k → dictTurn (memberText m ++ (44 ∷ 32 ∷ (memberText k ++ ys))) ≡ more (memberIn m (44 ∷ 32 ∷ (memberText k ++ ys)) ∷ []) (memberText k ++ ys)
+dict-more : (m k : Plain) (ys : List ℕ) → GoodMember m → GoodMember k → dictTurn (memberText m ++ (44 ∷ 32 ∷ (memberText k ++ ys))) ≡ more (memberBefore m (44 ∷ 32 ∷ (memberText k ++ ys)) ∷ []) (memberText k ++ ys)
 unfolding dictTurn partedOf going skip next past pick isEmpty headOf
 dict-more m k ys g h =
     let l : List ℕ = memberText k ++ ys in
@@ -208,9 +155,9 @@ abbrev followingMembers : List Plain → List ℕ
 followingMembers ms = eachAfter (text ", ") (map memberText ms)
 
 -- where the members stand that are written
-unfoldable pub placedAll : List Plain → List Member
+unfoldable placedAll : List Plain → List Member
 placedAll [] = []
-placedAll (m ∷ ms) = memberIn m (followingMembers ms) ∷ placedAll ms
+placedAll (m ∷ ms) = memberBefore m (followingMembers ms) ∷ placedAll ms
 
 -- the turns from a member on
 dict-turns : (m : Plain) (ms : List Plain) (n : ℕ) → GoodMember m → AllGood ms → length ms < n → turns dictTurn n (memberText m ++ followingMembers ms) ≡ parsed (placedAll (m ∷ ms)) []
@@ -220,7 +167,7 @@ dict-turns m [] (suc n) g a h = simp (dict-last m g)
 dict-turns m (k ∷ ms) (suc n) g (and h a) u = simp (dict-more m k (followingMembers ms) g h, dict-turns k ms n h a (omega arith))
 
 -- what is written is a dictionary, with its members at these places
-pub written-placed : (ms : List Plain) → AllGood ms → dictionary (written ms) ≡ some (placedAll ms)
+written-placed : (ms : List Plain) → AllGood ms → dictionary (written ms) ≡ some (placedAll ms)
 unfolding written joinedBy placedAll readAll dataOf skip past pick isEmpty
 written-placed [] a = refl
 written-placed (m ∷ ms) (and g a) =
@@ -229,20 +176,15 @@ written-placed (m ∷ ms) (and g a) =
     (every-past isSpace [] (memberText m ++ ys) (unfold every in refl) (member-head m ys g 32 refl), full (memberText m ++ ys) (member-head m ys g 0 refl), dict-turns m ms (suc (length (memberText m ++ ys))) g a (simp length-append (omega (arith, length-map ms memberText, each-long 44 (32 ∷ []) (map memberText ms)))))
 
 -- without its places, a member is the one that was written
-placed-value : (v : Value) (ys : List ℕ) → placedIn v ys .value ≡ v
-unfolding placedIn
+placed-value : (v : Value) (ys : List ℕ) → placedBefore v ys .value ≡ v
+unfolding placedBefore
 placed-value (one x) ys = refl
 placed-value (many xs) ys = refl
 
 placed-plain : (ms : List Plain) → plains (placedAll ms) ≡ ms
-unfolding placedAll memberIn plains
+unfolding placedAll memberBefore plains
 placed-plain [] = refl
 placed-plain (m ∷ ms) = simp (placed-value (m .value) (followingMembers ms), placed-plain ms)
-
--- what is written is a dictionary
-pub written-dictionary : (ms : List Plain) → AllGood ms → isSome (dictionary (written ms)) ≡ true
-unfolding isSome
-written-dictionary ms a = rw (written-placed ms a)
 
 -- members that are written are read back
 pub written-back : (ms : List Plain) → AllGood ms → members (written ms) ≡ some ms

@@ -1,28 +1,24 @@
 -- Examples of what is written and read back. Assumes nothing.
-use Prim.Native.Nat.{ℕ}
 use mathlib.Core.Path.{_≡_, refl}
 use mathlib.Core.List.{List, [], _∷_}
 use mathlib.Core.Option.{some, none}
 use Rattle.ascii.proofs.Clash.{clash}
-use Rattle.ascii.specs.Bytes.{pick}
 use Rattle.ascii.specs.Literals.{text}
-use Rattle.ascii.specs.Texts.{every}
-use Rattle.ascii.specs.Reading.{headOf, headIs, isEmpty, next, skip, letLen, runOf, past, after, mapped, going, adding, onStep, turns}
-use Rattle.items.specs.Items.{keyOf, tokenOf, booleanOf, bytesOf, fractionOf, unsignedOf, numberOf, stringTurn, stringOf, bareOf, paramOf, paramTurn, paramsOf, itemOf}
 use Rattle.items.specs.Items.Item.{token, string, other}
-use Rattle.dictionaries.specs.Dictionaries.{Plain, members, innerTurn, innerOf, closedOf, listOf, loneOf, bareKey, valueOf, assignedOf, memberOf, partedOf, dictTurn, readAll, dataOf, plains, plainly}
+use Rattle.dictionaries.specs.Computing.{computing}
+use Rattle.dictionaries.specs.Dictionaries.{Plain, members}
 use Rattle.dictionaries.specs.Dictionaries.Value.{one, many}
-use Rattle.dictionaries.specs.Written.{eachAfter, joinedBy, itemText, valueText, memberText, written, GoodKey, GoodItem, AllGood}
+use Rattle.dictionaries.specs.Written.{written, GoodKey, GoodItem, AllGood}
 use Rattle.dictionaries.specs.Written.All.{empty, and}
-use Rattle.dictionaries.proofs.Back.{written-back}
+use Rattle.dictionaries.proofs.ReadBack.{written-back}
 
 -- no members: the empty text
 none-written : written [] ≡ []
-unfolding written joinedBy
+unfolding computing
 none-written = refl
 
 none-back : members [] ≡ some []
-unfolding written joinedBy
+unfolding computing
 none-back = written-back [] empty
 
 -- three members, their text, and that it is read back
@@ -34,23 +30,23 @@ three =
     ∷ []
 
 three-written : written three ≡ text "camera=(self \"https://b.example\"), forms=*, usb=(self)"
-unfolding written joinedBy eachAfter itemText valueText memberText
+unfolding computing
 three-written = refl
 
 self-good : GoodItem (token (text "self"))
-unfolding headIs headOf every
+unfolding computing
 self-good = record { starts = refl; bytes = refl }
 
 any-good : GoodItem (token (text "*"))
-unfolding headIs headOf every
+unfolding computing
 any-good = record { starts = refl; bytes = refl }
 
 origin-good : GoodItem (string (text "https://b.example"))
-unfolding every
+unfolding computing
 origin-good = refl
 
 three-good : AllGood three
-unfolding headIs headOf every
+unfolding computing
 three-good =
     and (record { key = record { starts = refl; bytes = refl }; value = and self-good (and origin-good empty) })
     (and (record { key = record { starts = refl; bytes = refl }; value = any-good })
@@ -68,11 +64,11 @@ small =
     ∷ []
 
 small-written : written small ≡ text "a=(), *=(\"\"), a=b"
-unfolding written joinedBy eachAfter itemText valueText memberText
+unfolding computing
 small-written = refl
 
 small-back : members (written small) ≡ some small
-unfolding headIs headOf every
+unfolding computing
 small-back =
     written-back small
     (and (record { key = record { starts = refl; bytes = refl }; value = empty })
@@ -81,19 +77,19 @@ small-back =
 
 -- what cannot be written: no key and no token is empty, a key has no upper-case letter, a string's text no quote, and no other item is written
 no-empty-key : GoodKey [] → ⊥
-unfolding headIs headOf
+unfolding computing
 no-empty-key g = clash (cc (g .starts))
 
 no-upper-key : GoodKey (text "usB") → ⊥
-unfolding every
+unfolding computing
 no-upper-key g = clash (cc (g .bytes))
 
 no-empty-token : GoodItem (token []) → ⊥
-unfolding headIs headOf
+unfolding computing
 no-empty-token g = clash (cc (g .starts))
 
 no-quote-inside : GoodItem (string (text "a\"b")) → ⊥
-unfolding every
+unfolding computing
 no-quote-inside g = clash (cc g)
 
 no-other : GoodItem other → ⊥
@@ -101,5 +97,5 @@ no-other g = g
 
 -- a string with a quote inside is not read back: `a=("b"c")`
 quote-not-back : members (written (record { key = text "a"; value = many (string (text "b\"c") ∷ []) } ∷ [])) ≡ none
-unfolding pick headOf headIs isEmpty next skip letLen runOf past after mapped going adding onStep turns keyOf tokenOf booleanOf bytesOf fractionOf unsignedOf numberOf stringTurn stringOf bareOf paramOf paramTurn paramsOf itemOf innerTurn innerOf closedOf listOf loneOf bareKey valueOf assignedOf memberOf partedOf dictTurn readAll dataOf plains plainly written joinedBy eachAfter itemText valueText memberText
+unfolding computing
 quote-not-back = refl

@@ -22,7 +22,7 @@ use Rattle.ascii.proofs.Reading.{run-cut}
 use Rattle.ascii.proofs.Texts.{part-in}
 use Rattle.items.specs.Items.{Item, Parameter, keyOf, tokenOf, isEscaped, isNumberStart, stringTurn, stringOf, numberOf, bytesOf, booleanOf, bareOf, paramsOf, itemOf}
 use Rattle.items.specs.Items.Item.{token, string, other}
-use Rattle.items.specs.Found.{itemRange, itemFound, itemBy, itemAs, endOf}
+use Rattle.items.specs.Found.{itemRange, itemFound, itemBy, itemIn, endOf}
 use Rattle.items.specs.declared.ItemKind.{ItemKind}
 use Rattle.items.specs.declared.ItemKind.the-variants as kind
 use Rattle.items.specs.declared.ItemFound.{ItemFound}
@@ -159,15 +159,16 @@ left-at s r q w e h = rw e at h
 pub left-none : (s : List ℕ) (r : Read) (w : Option (List ℕ)) → r ≡ read.Malformed → leftAt s r ≡ w → leftAt s read.Malformed ≡ w
 left-none s r w e h = rw e at h
 
-left-parsed : {A : Type 0} (s m : List ℕ) (q : ℕ) (x : A) → leftAt s (read.At q) ≡ restOf (parsed x m) → drop q s ≡ m
+-- and what is left by a reading, taken apart
+pub left-parsed : {A : Type 0} (s m : List ℕ) (q : ℕ) (x : A) → leftAt s (read.At q) ≡ restOf (parsed x m) → drop q s ≡ m
 unfolding restOf leftAt
 left-parsed s m q x v = cc
 
-left-not : (A : Type 0) (s : List ℕ) (q : ℕ) → leftAt s (read.At q) ≡ restOf {A = A} malformed → ⊥
+pub left-not : (A : Type 0) (s : List ℕ) (q : ℕ) → leftAt s (read.At q) ≡ restOf {A = A} malformed → ⊥
 unfolding restOf leftAt
 left-not A s q v = clash cc
 
-none-parsed : {A : Type 0} (s m : List ℕ) (x : A) → leftAt s read.Malformed ≡ restOf (parsed x m) → ⊥
+pub none-parsed : {A : Type 0} (s m : List ℕ) (x : A) → leftAt s read.Malformed ≡ restOf (parsed x m) → ⊥
 unfolding restOf leftAt
 none-parsed s m x v = clash cc
 
@@ -292,11 +293,11 @@ part-took s t m i h e =
     let n : length t + length m ≡ length s - i = sym (length-append t m) ∙ (sym (ap length e) ∙ length-drop i s) in
     sym (part-in s i (i + length t) (omega arith) (omega arith)) ∙ (rw e (take-at t m (i + length t - i) (omega arith)))
 
-pub bare-as : (s : List ℕ) (i : ℕ) (x : Item) (m : List ℕ) → i ≤ length s → bareOf (drop i s) ≡ parsed x m → itemAs s (itemRange i x) ≡ x
-bare-as s i x m h e = go x (rw e at (bare-took (drop i s)))
+pub bare-range : (s : List ℕ) (i : ℕ) (x : Item) (m : List ℕ) → i ≤ length s → bareOf (drop i s) ≡ parsed x m → itemIn s (itemRange i x) ≡ x
+bare-range s i x m h e = go x (rw e at (bare-took (drop i s)))
   where
-    go : (x : Item) → ItemTook (kindBy (headOf (drop i s))) (drop i s) (parsed x m) → itemAs s (itemRange i x) ≡ x
-    go = unfold itemAs itemRange itemBy in (elim [
+    go : (x : Item) → ItemTook (kindBy (headOf (drop i s))) (drop i s) (parsed x m) → itemIn s (itemRange i x) ≡ x
+    go = unfold itemIn itemRange itemBy in (elim [
       | token t ↦ λ c. ap token (part-took s t m i h (c .1))
       | string t ↦ λ c.
           let d : drop (i + 1) s ≡ t ++ (34 ∷ m) = sym (drop-drop 1 i s) ∙ (ap (drop 1) (c .1) ∙ append-assoc t (34 ∷ []) m) in
@@ -306,12 +307,26 @@ bare-as s i x m h e = go x (rw e at (bare-took (drop i s)))
     ])
 
 -- the same of an item with its parameters
-pub item-as : (s : List ℕ) (i : ℕ) (x : Item) (m : List ℕ) → i ≤ length s → itemOf (drop i s) ≡ parsed x m → itemAs s (itemRange i x) ≡ x
+pub item-range : (s : List ℕ) (i : ℕ) (x : Item) (m : List ℕ) → i ≤ length s → itemOf (drop i s) ≡ parsed x m → itemIn s (itemRange i x) ≡ x
 unfolding itemOf
-item-as s i x m h e = go (bareOf (drop i s)) refl e
+item-range s i x m h e = go (bareOf (drop i s)) refl e
   where
     named : (y : Item) (g : Parsed (List Parameter)) → mapped (λ p. y) g ≡ parsed x m → y ≡ x
     named = unfold mapped in (λ y. elim [ parsed p n ↦ λ u. cc | malformed ↦ λ u. clash cc ])
 
-    go : (g : Parsed Item) → bareOf (drop i s) ≡ g → after g (λ y n. mapped (λ p. y) (paramsOf n)) ≡ parsed x m → itemAs s (itemRange i x) ≡ x
-    go = unfold after in (elim [ parsed y n ↦ λ b u. let v : y ≡ x = named y (paramsOf n) u in bare-as s i x n h (b ∙ ap (λ (z : Item). parsed z n) v) | malformed ↦ λ b u. clash cc ])
+    go : (g : Parsed Item) → bareOf (drop i s) ≡ g → after g (λ y n. mapped (λ p. y) (paramsOf n)) ≡ parsed x m → itemIn s (itemRange i x) ≡ x
+    go = unfold after in (elim [ parsed y n ↦ λ b u. let v : y ≡ x = named y (paramsOf n) u in bare-range s i x n h (b ∙ ap (λ (z : Item). parsed z n) v) | malformed ↦ λ b u. clash cc ])
+
+-- an item that is neither token nor string has no text
+pub other-range : (s : List ℕ) (i : ℕ) → itemIn s (itemRange i other) ≡ other
+unfolding itemIn itemRange itemBy
+other-range s i = refl
+
+pub other-at : (i : ℕ) → itemRange i other ≡ record { kind = kind.Other; from = i; to = i }
+unfolding itemRange
+other-at i = refl
+
+-- an answer's range and place, by the reading
+pub found-is : (s : List ℕ) (i : ℕ) (f : ItemFound) (x : Item) (m : List ℕ) → item.Found f ≡ itemFound s i (parsed x m) → f ≡ record { range = itemRange i x; next = length s - length m }
+unfolding itemFound
+found-is s i f x m e = cc
