@@ -1,3 +1,4 @@
 pub mod Meanings
 pub mod Laws
 pub mod Written
+pub mod Few
