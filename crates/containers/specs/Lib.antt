@@ -4,3 +4,4 @@ pub mod Sandboxes
 pub mod Answers
 pub mod Widening
 pub mod Computing
+pub mod Examples

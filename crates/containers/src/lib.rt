@@ -119,7 +119,7 @@ pub fn declared_origin(sandboxed: bool, src: OriginText) -> DeclaredOrigin
         }
         OriginText::Tuple(r) => {
             if sandboxed {
-                DeclaredOrigin::Fresh
+                DeclaredOrigin::Fresh // whatever src says
             } else {
                 DeclaredOrigin::Src(r)
             }

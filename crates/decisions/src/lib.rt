@@ -90,7 +90,7 @@ pub fn question(
     ensures { λ r. ⌜ decisionIn r ≡ questionBy (decisionIn inherited) (admissionIn declared) (defaultIn default) same ⌝ }
 {
     match inherited {
-        Decision::Disabled => Decision::Disabled,
+        Decision::Disabled => Decision::Disabled, // whatever the header declares
         Decision::Enabled => match declared {
             Admission::NoList => by_default(default, same),
             Admission::Admitted => Decision::Enabled,

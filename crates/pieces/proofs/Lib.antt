@@ -4,3 +4,4 @@ pub mod Finding
 pub mod Placing
 pub mod Laws
 pub mod Added
+pub mod AddedExamples

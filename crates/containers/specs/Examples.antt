@@ -1,0 +1,164 @@
+-- Document 01's rows about a frame's attributes, and the slips, by computation.
+use Prim.Native.Nat.{ℕ}
+use Prim.Native.String.{String}
+use mathlib.Core.Path.{_≡_, refl}
+use mathlib.Core.List.{List, [], _∷_}
+use mathlib.Core.Bool.{Bool, true, false, not}
+use mathlib.Core.Option.{Option, some, none}
+use Rattle.ascii.specs.Bytes.{pick}
+use Rattle.ascii.specs.Literals.{text}
+use Rattle.ascii.specs.Texts.{every, sameBytes}
+use Rattle.origins.specs.Origins.{Origin}
+use Rattle.origins.specs.Origins.Origin.{fresh}
+use Rattle.origins.specs.Expressions.{SourceExpression}
+use Rattle.origins.specs.NormalForms.{expressionText}
+use Rattle.allowlists.specs.Allowlists.{Allowlist, allows}
+use Rattle.allowlists.specs.Allowlists.Allowlist.{all, listed}
+use Rattle.containers.specs.Attributes.{Attributes}
+use Rattle.containers.specs.Policies.{containerPolicy}
+use Rattle.containers.specs.Sandboxes.{isSandboxed, declaredOrigin}
+use Rattle.containers.specs.Computing.{computing}
+
+-- a frame with an allow attribute and allowfullscreen or without, and one with a sandbox attribute or without and a src
+abbrev allowing : String → Bool → Attributes
+allowing allow mark = record { allow = text allow; allowfullscreen = mark; hasSandbox = false; sandbox = []; src = [] }
+
+abbrev sandboxing : Bool → String → String → Attributes
+sandboxing stands sandbox src = record { allow = []; allowfullscreen = false; hasSandbox = stands; sandbox = text sandbox; src = text src }
+
+-- an allow attribute, whether allowfullscreen stands, a feature, and what they give it: no list, `*`, or a list with the container's origin or without, the declared origin or without, and the texts of its expressions
+pub data Row : Type 0 where
+  absent : String → Bool → ℕ → Row
+  everything : String → Bool → ℕ → Row
+  list : String → Bool → ℕ → Bool → Bool → List String → Row
+
+abbrev sameTexts : List SourceExpression → List String → Bool
+sameTexts [] [] = true
+sameTexts [] (t ∷ ts) = false
+sameTexts (e ∷ es) [] = false
+sameTexts (e ∷ es) (t ∷ ts) = pick (sameBytes (expressionText e) (text t)) (sameTexts es ts) false
+
+abbrev sameBool : Bool → Bool → Bool
+sameBool true b = b
+sameBool false b = not b
+
+abbrev isAbsent : Option Allowlist → Bool
+isAbsent (some l) = false
+isAbsent none = true
+
+abbrev isEverything : Option Allowlist → Bool
+isEverything (some all) = true
+isEverything (some (listed a b es)) = false
+isEverything none = false
+
+abbrev isList : Bool → Bool → List String → Option Allowlist → Bool
+isList c d ts (some all) = false
+isList c d ts (some (listed a b es)) = pick (sameBool c a) (pick (sameBool d b) (sameTexts es ts) false) false
+isList c d ts none = false
+
+abbrev right : Row → Bool
+right (absent s mark n) = isAbsent (containerPolicy (allowing s mark) n)
+right (everything s mark n) = isEverything (containerPolicy (allowing s mark) n)
+right (list s mark n c d ts) = isList c d ts (containerPolicy (allowing s mark) n)
+
+-- camera is 0, forms 3, fullscreen 4, usb 16
+rows : List Row
+rows =
+    absent "" false 0
+    ∷ list "camera" false 0 false true []
+    ∷ list "camera; camera 'none'" false 0 false false []
+    ∷ list "camera 'none'; camera" false 0 false true []
+    ∷ everything "camera *" false 0
+    ∷ everything "camera *; Camera; usb 'self'" false 0
+    ∷ list "camera *; Camera; usb 'self'" false 16 true false []
+    ∷ everything "" true 4
+    ∷ list "fullscreen 'none'" true 4 false false []
+    ∷ list "fullscreen" true 4 false true []
+    ∷ everything "Fullscreen 'none'" true 4
+    ∷ absent "" true 0
+    ∷ absent "" false 4
+    ∷ absent "camera\u{b}usb" false 0
+    ∷ list "camera 'self'\u{b}" false 0 false false []
+    ∷ list "\tcamera\n\u{c}\r'self' 'src'" false 0 true true []
+    ∷ absent "Camera" false 0
+    ∷ absent "camera,usb" false 0
+    ∷ absent "camera,usb" false 16
+    ∷ absent "* camera" false 0
+    ∷ absent ";;" false 0
+    ∷ list "camera 'SELF'" false 0 true false []
+    ∷ list "camera 'None'" false 0 false false []
+    ∷ list "camera self 'sel' http://" false 0 false false []
+    ∷ list "forms" false 3 false true []
+    ∷ list "camera https://B.example:443 'Src' junk http:" false 0 false true ("https://b.example:443" ∷ "http:" ∷ [])
+    ∷ everything "camera 'none' * https://b.example" false 0
+    ∷ absent "camera *" false 17
+    ∷ []
+
+rows-right : every right rows ≡ true
+unfolding computing rows
+rows-right = refl
+
+-- whether the container document is sandboxed, whether a sandbox attribute stands, its text, and whether the frame's document is sandboxed
+pub data Frame : Type 0 where
+  frame : Bool → Bool → String → Bool → Frame
+
+abbrev sandboxRight : Frame → Bool
+sandboxRight (frame container stands s expected) = sameBool expected (isSandboxed container (sandboxing stands s ""))
+
+frames : List Frame
+frames =
+    frame false false "" false
+    ∷ frame false true "" true
+    ∷ frame false true "allow-scripts" true
+    ∷ frame false true "allow-scripts\u{c}Allow-Same-Origin" false
+    ∷ frame false true "allow-same-origin\u{b}" true
+    ∷ frame false true "allow-same-origin;" true
+    ∷ frame false false "x" false
+    ∷ frame true false "" true
+    ∷ frame true true "allow-same-origin" true
+    ∷ []
+
+frames-right : every sandboxRight frames ≡ true
+unfolding computing frames
+frames-right = refl
+
+-- a frame of a document at https://a.example: allow, whether its document is sandboxed, src, the origin asked about, and whether camera's list admits it
+pub data Asked : Type 0 where
+  asked : String → Bool → String → String → Bool → Asked
+
+abbrev orFresh : Option Origin → Origin
+orFresh (some o) = o
+orFresh none = fresh
+
+abbrev originAt : Bool → String → Origin
+originAt sandboxed s = orFresh (declaredOrigin sandboxed (sandboxing false "" s) (orFresh (declaredOrigin false (sandboxing false "" "https://a.example") fresh)))
+
+abbrev someAllows : Option Allowlist → Origin → Origin → Origin → Bool
+someAllows (some l) container declared o = allows l container declared o
+someAllows none container declared o = false
+
+abbrev askedRight : Asked → Bool
+askedRight (asked allow sandboxed src arriving expected) =
+    sameBool expected (someAllows (containerPolicy (allowing allow false) 0) (originAt false "") (originAt sandboxed src) (originAt false arriving))
+
+asks : List Asked
+asks =
+    asked "camera" false "https://b.example" "https://b.example" true
+    ∷ asked "camera" false "https://b.example" "https://c.example" false
+    ∷ asked "camera; camera 'none'" false "https://b.example" "https://b.example" false
+    ∷ asked "camera 'src'" false "https://b.example" "https://b.example" true
+    ∷ asked "camera 'src'" false "https://b.example" "https://c.example" false
+    ∷ asked "camera 'self'" false "https://b.example" "https://b.example" false
+    ∷ asked "camera 'self'" false "https://b.example" "https://a.example" true
+    ∷ asked "camera https://b.example" false "" "https://a.example" false
+    ∷ asked "camera" false "" "https://a.example" true
+    ∷ asked "camera" true "https://b.example" "null" false
+    ∷ asked "camera" true "https://b.example" "https://b.example" false
+    ∷ asked "camera" false "null" "null" false
+    ∷ asked "camera *" true "https://b.example" "null" true
+    ∷ asked "camera https://*.b.example:*" false "" "https://x.b.example:444" true
+    ∷ []
+
+asks-right : every askedRight asks ≡ true
+unfolding computing asks
+asks-right = refl
