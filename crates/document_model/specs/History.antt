@@ -1,0 +1,121 @@
+-- 01, "What demand 3 speaks of": "loaded" and "beneath", by the calls and their answers alone.
+use Prim.Native.Nat.{ℕ, suc, _+_, _≤_}
+use mathlib.Core.Path.{_≡_}
+use mathlib.Core.Bool.{Bool, true}
+use mathlib.Core.List.{List, [], _∷_, _++_}
+use lib.ListN.{length, drop}
+use Rattle.containers.specs.Sandboxes.{sandboxes}
+use Rattle.containers.specs.Attributes.{Attributes}
+use Rattle.document_model.specs.Model.{Text, Table, newTable, Call, topLoad, framedLoad, unload, Answer, refused, loaded, removed, decision, features, serials, say, go}
+
+pub record Event : Type 0 where
+  pub call : Call
+  pub answer : Answer
+
+-- an accepted load gave the serial
+pub data Gave : Call → Answer → ℕ → Type 0 where
+  gave-top : {h o : Text} {s : ℕ} {m : Bool} → Gave (topLoad h o) (loaded s m) s
+  gave-framed : {c : ℕ} {h o : Text} {a : Attributes} {s : ℕ} {m : Bool} → Gave (framedLoad c h o a) (loaded s m) s
+
+-- an accepted load gave the serial, and named the container
+pub data Framed : Call → Answer → ℕ → ℕ → Type 0 where
+  framed-by : {c : ℕ} {h o : Text} {a : Attributes} {s : ℕ} {m : Bool} → Framed (framedLoad c h o a) (loaded s m) s c
+
+-- an accepted unload named the serial
+pub data Unloaded : Call → Answer → ℕ → Type 0 where
+  unloaded : {u n : ℕ} → Unloaded (unload u) (removed n) u
+
+-- events stand with the last one first
+pub data Happened (c : Call) (a : Answer) : List Event → Type 0 where
+  just : {es : List Event} → Happened c a (record { call = c; answer = a } ∷ es)
+  once : {e : Event} {es : List Event} → Happened c a es → Happened c a (e ∷ es)
+
+-- "It is beneath the container that its load named, and beneath all that this one is beneath."
+pub data BeneathIn (es : List Event) : ℕ → ℕ → Type 0 where
+  by : {c : Call} {a : Answer} {e d : ℕ} → Happened c a es → Framed c a e d → BeneathIn es e d
+  over : {c : Call} {a : Answer} {e k d : ℕ} → Happened c a es → Framed c a e k → BeneathIn es k d → BeneathIn es e d
+
+-- "A document is loaded if an accepted load gave its serial and no accepted unload since has named it or a document that it was beneath."
+pub data LoadedIn : List Event → ℕ → Type 0 where
+  now : {c : Call} {a : Answer} {es : List Event} {s : ℕ} → Gave c a s → LoadedIn (record { call = c; answer = a } ∷ es) s
+  still : {c : Call} {a : Answer} {es : List Event} {s : ℕ} → LoadedIn es s → ((u : ℕ) → Unloaded c a u → (u ≡ s → ⊥) × (BeneathIn es s u → ⊥)) → LoadedIn (record { call = c; answer = a } ∷ es) s
+
+-- the calls with their answers, the last one first
+unfoldable pub past : List Call → Table → List Event → List Event
+past [] t es = es
+past (c ∷ cs) t es = past cs (go c t) (record { call = c; answer = say c t } ∷ es)
+
+-- the history of a list of calls on a new table
+unfoldable pub history : List Call → List Event
+history cs = past cs newTable []
+
+-- ---- numbers and lists of serials
+
+abbrev pub loadOf : Answer → ℕ
+loadOf (refused n) = 0
+loadOf (loaded s m) = 1
+loadOf (removed n) = 0
+loadOf (decision d) = 0
+loadOf (features m) = 0
+loadOf (serials n run) = 0
+
+abbrev pub removedOf : Answer → ℕ
+removedOf (refused n) = 0
+removedOf (loaded s m) = 0
+removedOf (removed n) = n
+removedOf (decision d) = 0
+removedOf (features m) = 0
+removedOf (serials n run) = 0
+
+-- how many loads were accepted
+unfoldable pub loadsIn : List Event → ℕ
+loadsIn [] = 0
+loadsIn (e ∷ es) = loadOf (e .answer) + loadsIn es
+
+-- the sum of the unload answers
+unfoldable pub removedIn : List Event → ℕ
+removedIn [] = 0
+removedIn (e ∷ es) = removedOf (e .answer) + removedIn es
+
+-- a number of a list
+pub data Member (n : ℕ) : List ℕ → Type 0 where
+  first : {l : List ℕ} → Member n (n ∷ l)
+  later : {m : ℕ} {l : List ℕ} → Member n l → Member n (m ∷ l)
+
+-- ascending, from a number on
+abbrev pub Ascending : ℕ → List ℕ → Type 0
+Ascending lo [] = Unit {0}
+Ascending lo (n ∷ l) = (lo ≤ n) × Ascending (suc n) l
+
+-- the list, ascending, of exactly the numbers of which something holds
+pub record Exactly (P : ℕ → Type 0) (l : List ℕ) : Type 0 where
+  pub ascends : Ascending 0 l
+  pub sound : (n : ℕ) → Member n l → P n
+  pub whole : (n : ℕ) → P n → Member n l
+
+-- the list of the loaded serials, and of those beneath a serial
+abbrev pub AreLoaded : List Event → List ℕ → Type 0
+AreLoaded es l = Exactly (LoadedIn es) l
+
+abbrev pub AreBeneath : List Event → ℕ → List ℕ → Type 0
+AreBeneath es s l = Exactly (λ e. LoadedIn es e × BeneathIn es e s) l
+
+-- "A document loaded under either condition is itself sandboxed."
+pub data SandboxedIn (es : List Event) : ℕ → Type 0 where
+  by-attribute : {c : ℕ} {h o : Text} {a : Attributes} {s : ℕ} {m : Bool} → Happened (framedLoad c h o a) (loaded s m) es → sandboxes a ≡ true → SandboxedIn es s
+  by-container : {c : ℕ} {h o : Text} {a : Attributes} {s : ℕ} {m : Bool} → Happened (framedLoad c h o a) (loaded s m) es → SandboxedIn es c → SandboxedIn es s
+
+-- the serials that answers give, in order
+unfoldable pub given : List Answer → List ℕ
+given [] = []
+given (refused n ∷ l) = given l
+given (loaded s m ∷ l) = s ∷ given l
+given (removed n ∷ l) = given l
+given (decision d ∷ l) = given l
+given (features m ∷ l) = given l
+given (serials n run ∷ l) = given l
+
+-- what a listing into a lent run answers, told the serials: how many, and the run afterwards, places after them unchanged
+pub record Listed (n : ℕ) (r run l : List ℕ) : Type 0 where
+  pub count : n ≡ length l
+  pub after-it : r ≡ l ++ drop (length l) run

@@ -1,0 +1,90 @@
+-- 01, "The table of loaded documents": the rows of the refusals, told by the call and by the calls and answers before it.
+use Prim.Native.Nat.{ℕ, _<_, _≤_}
+use mathlib.Core.Path.{_≡_}
+use mathlib.Core.Bool.{true}
+use mathlib.Core.List.{List}
+use lib.ListN.{length}
+use Rattle.limits.specs.Limits.{textBytes, documentLimit, lastSerial}
+use Rattle.limits.specs.declared.Refusal.{Refusal}
+use Rattle.limits.specs.declared.Refusal.the-variants.{NotLoaded, NoSuchFeature, BadOrigin, TooLong, Sandbox, Full, Spent, NotADictionary, Small}
+use Rattle.features.specs.Features.{featureCount}
+use Rattle.origins.specs.Origins.{originOf}
+use Rattle.origins.specs.Origins.OriginSaid.{saysEmpty, saysNull, noOrigin}
+use Rattle.containers.specs.Sandboxes.{sandboxes}
+use Rattle.containers.specs.Attributes.{Attributes}
+use Rattle.document_model.specs.Model.{Text, Call, topLoad, framedLoad, unload, ask, enabledOf, listing, foresee}
+use Rattle.document_model.specs.History.{Event, LoadedIn, SandboxedIn, AreLoaded, AreBeneath, loadsIn}
+
+-- "Order: 4 for input texts, 3 for the document's or question's origin, 3 for src, 2, 1, 5, 6, 7, 8, 4 for output, 9."
+pub data Row : Type 0 where
+  inputLong badOrigin badSrc noFeature notLoaded sandboxed full spent notDictionary outputLong small : Row
+
+abbrev pub place : Row → ℕ
+place inputLong = 0
+place badOrigin = 1
+place badSrc = 2
+place noFeature = 3
+place notLoaded = 4
+place sandboxed = 5
+place full = 6
+place spent = 7
+place notDictionary = 8
+place outputLong = 9
+place small = 10
+
+abbrev pub refusalOf : Row → Refusal
+refusalOf inputLong = TooLong
+refusalOf badOrigin = BadOrigin
+refusalOf badSrc = BadOrigin
+refusalOf noFeature = NoSuchFeature
+refusalOf notLoaded = NotLoaded
+refusalOf sandboxed = Sandbox
+refusalOf full = Full
+refusalOf spent = Spent
+refusalOf notDictionary = NotADictionary
+refusalOf outputLong = TooLong
+refusalOf small = Small
+
+-- "header, allow or sandbox text"
+pub data Input : Call → Text → Type 0 where
+  top-header : {h o : Text} → Input (topLoad h o) h
+  framed-header : {c : ℕ} {h o : Text} {a : Attributes} → Input (framedLoad c h o a) h
+  framed-allow : {c : ℕ} {h o : Text} {a : Attributes} → Input (framedLoad c h o a) (a .allow)
+  framed-sandbox : {c : ℕ} {h o : Text} {a : Attributes} → Input (framedLoad c h o a) (a .sandbox)
+  foresee-allow : {c : ℕ} {a : Attributes} → Input (foresee c a) (a .allow)
+  foresee-sandbox : {c : ℕ} {a : Attributes} → Input (foresee c a) (a .sandbox)
+
+-- the call names a serial
+pub data Names : Call → ℕ → Type 0 where
+  framed-names : {c : ℕ} {h o : Text} {a : Attributes} → Names (framedLoad c h o a) c
+  unload-names : {s : ℕ} → Names (unload s) s
+  ask-names : {s f : ℕ} {o : Text} → Names (ask s f o) s
+  enabled-names : {s : ℕ} → Names (enabledOf s) s
+  listing-names : {s : ℕ} {run : List ℕ} → Names (listing s run) s
+  foresee-names : {c : ℕ} {a : Attributes} → Names (foresee c a) c
+
+pub data IsLoad : Call → Type 0 where
+  is-top : {h o : Text} → IsLoad (topLoad h o)
+  is-framed : {c : ℕ} {h o : Text} {a : Attributes} → IsLoad (framedLoad c h o a)
+
+-- the condition of a row
+pub data Holds (es : List Event) : Call → Row → Type 0 where
+  long : {c : Call} (x : Text) → Input c x → textBytes < length x → Holds es c inputLong
+  top-bad : {h o : Text} → originOf o ≡ noOrigin → Holds es (topLoad h o) badOrigin
+  top-empty : {h o : Text} → originOf o ≡ saysEmpty → Holds es (topLoad h o) badOrigin
+  framed-bad : {c : ℕ} {h o : Text} {a : Attributes} → originOf o ≡ noOrigin → Holds es (framedLoad c h o a) badOrigin
+  ask-bad : {s f : ℕ} {o : Text} → originOf o ≡ noOrigin → Holds es (ask s f o) badOrigin
+  framed-src : {c : ℕ} {h o : Text} {a : Attributes} → originOf (a .src) ≡ noOrigin → Holds es (framedLoad c h o a) badSrc
+  foresee-src : {c : ℕ} {a : Attributes} → originOf (a .src) ≡ noOrigin → Holds es (foresee c a) badSrc
+  over : {s f : ℕ} {o : Text} → featureCount ≤ f → Holds es (ask s f o) noFeature
+  closed : {c : Call} (s : ℕ) → Names c s → (LoadedIn es s → ⊥) → Holds es c notLoaded
+  in-container : {c : ℕ} {h o : Text} {a : Attributes} → SandboxedIn es c → (originOf o ≡ saysNull → ⊥) → Holds es (framedLoad c h o a) sandboxed
+  in-attribute : {c : ℕ} {h o : Text} {a : Attributes} → sandboxes a ≡ true → (originOf o ≡ saysNull → ⊥) → Holds es (framedLoad c h o a) sandboxed
+  sixteen : {c : Call} (l : List ℕ) → IsLoad c → AreLoaded es l → length l ≡ documentLimit → Holds es c full
+  all-given : {c : Call} → IsLoad c → loadsIn es ≡ lastSerial → Holds es c spent
+  short-run : {s : ℕ} {run : List ℕ} (l : List ℕ) → AreBeneath es s l → length run < length l → Holds es (listing s run) small
+
+-- the first row whose condition holds
+pub record First (es : List Event) (c : Call) (r : Row) : Type 0 where
+  pub holds : Holds es c r
+  pub none-before : (q : Row) → place q < place r → Holds es c q → ⊥
