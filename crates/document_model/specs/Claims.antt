@@ -11,14 +11,14 @@ use Rattle.containers.specs.Widening.{WordMore}
 use Rattle.decisions.specs.Decisions.{Decision}
 use Rattle.decisions.specs.Masks.{decisionAt}
 use Rattle.decisions.specs.Widening.{Stays}
-use Rattle.document_model.specs.Model.{Text, Table, Call, topLoad, framedLoad, foresee, Answer, refused, loaded, removed, decision, features, serials, say}
+use Rattle.document_model.specs.Model.{Text, Table, Call, topLoad, framedLoad, forecastOf, Answer, refused, loaded, removed, decision, features, serials, answerTo}
 
 -- the second call has one item more in a header, or one word more in an allow attribute
-pub data Richer : Call → Call → Type 0 where
-  item-top : {h g o : Text} → OneItemMore h g → Richer (topLoad h o) (topLoad g o)
-  item-framed : {c : ℕ} {h g o : Text} {a : Attributes} → OneItemMore h g → Richer (framedLoad c h o a) (framedLoad c g o a)
-  word-framed : {c : ℕ} {h o : Text} {a b : Attributes} → WordMore a b → Richer (framedLoad c h o a) (framedLoad c h o b)
-  word-foresee : {c : ℕ} {a b : Attributes} → WordMore a b → Richer (foresee c a) (foresee c b)
+pub data OneMore : Call → Call → Type 0 where
+  item-top : {h g o : Text} → OneItemMore h g → OneMore (topLoad h o) (topLoad g o)
+  item-framed : {c : ℕ} {h g o : Text} {a : Attributes} → OneItemMore h g → OneMore (framedLoad c h o a) (framedLoad c g o a)
+  word-framed : {c : ℕ} {h o : Text} {a b : Attributes} → WordMore a b → OneMore (framedLoad c h o a) (framedLoad c h o b)
+  word-forecast : {c : ℕ} {a b : Attributes} → WordMore a b → OneMore (forecastOf c a) (forecastOf c b)
 
 abbrev pub isAccepted : Answer → Bool
 isAccepted (refused n) = false
@@ -37,4 +37,4 @@ pub data Keeps : Answer → Answer → Type 0 where
 -- the origin text at which a frame's document arrives at the declared origin: the src text; or `null` where the load with the src text is refused with 5, and so the declared origin is fresh
 pub data AtDeclared (t : Table) (c : ℕ) (a : Attributes) : Text → Type 0 where
   as-src : AtDeclared t c a (a .src)
-  as-null : say (framedLoad c [] (a .src) a) t ≡ refused Sandbox → AtDeclared t c a nullText
+  as-null : answerTo (framedLoad c [] (a .src) a) t ≡ refused Sandbox → AtDeclared t c a nullText

@@ -8,9 +8,9 @@ use Rattle.decisions.specs.Decisions.{decided, unlessDisabled, byList, byDefaul
 use Rattle.decisions.specs.Masks.{maskBelow, decisionAt}
 use Rattle.decisions.specs.Policies.{value, inheritedFramed, question, valueIn, questionIn, inheritedIn, enabledMask, forecast}
 use Rattle.document_model.specs.Runs.{leftBy, answersBy}
-use Rattle.document_model.specs.Model.{valuesFrom, declaredBy, boxed, declaredAt, elem, goes, find, kept, gone, under, need, withDocument, fits, load, topWho, framedWho, topDocument, framedDocument, stored, body, step, say, go, after, answers}
-use Rattle.document_model.specs.History.{past, history, loadsIn, removedIn, given}
+use Rattle.document_model.specs.Model.{valuesFrom, declaredBy, frameSandboxed, frameDeclared, elem, isAtOrBeneath, find, remaining, removedCount, serialsBeneath, refuseUnless, withDocument, textsFit, load, topIdentity, framedIdentity, topDocument, framedDocument, stored, fittingOutcome, outcome, answerTo, tableLeft, tableAfter, answers}
+use Rattle.document_model.specs.History.{eventsFrom, history, acceptedLoads, unloadSum, given}
 
 unfoldable pub computing : Unit {0}
-unfolding containers-computing keyOf tokenOf booleanOf bytesOf fractionOf unsignedOf numberOf stringTurn stringOf bareOf paramOf paramTurn paramsOf itemOf innerTurn innerOf closedOf listOf loneOf valueOf bareKey assignedOf memberOf partedOf dictTurn readAll dataOf plains plainly into later lastValueIn isSome tokenMeaning itemMeaning loneDeclares valueDeclares lastDeclares declares isMalformed declaredAdmits decided unlessDisabled byList byDefault valueBy inheritedBy questionBy maskBelow decisionAt value inheritedFramed question valueIn questionIn inheritedIn enabledMask forecast leftBy answersBy valuesFrom declaredBy boxed declaredAt elem goes find kept gone under need withDocument fits load topWho framedWho topDocument framedDocument stored body step say go after answers past history loadsIn removedIn given
+unfolding containers-computing keyOf tokenOf booleanOf bytesOf fractionOf unsignedOf numberOf stringTurn stringOf bareOf paramOf paramTurn paramsOf itemOf innerTurn innerOf closedOf listOf loneOf valueOf bareKey assignedOf memberOf partedOf dictTurn readAll dataOf plains plainly into later lastValueIn isSome tokenMeaning itemMeaning loneDeclares valueDeclares lastDeclares declares isMalformed declaredAdmits decided unlessDisabled byList byDefault valueBy inheritedBy questionBy maskBelow decisionAt value inheritedFramed question valueIn questionIn inheritedIn enabledMask forecast leftBy answersBy valuesFrom declaredBy frameSandboxed frameDeclared elem isAtOrBeneath find remaining removedCount serialsBeneath refuseUnless withDocument textsFit load topIdentity framedIdentity topDocument framedDocument stored fittingOutcome outcome answerTo tableLeft tableAfter answers eventsFrom history acceptedLoads unloadSum given
 computing = tt

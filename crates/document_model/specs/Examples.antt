@@ -12,8 +12,8 @@ use Rattle.pieces.specs.OneWordMore.{OneWordMore}
 use Rattle.containers.specs.Policies.{isSemicolon}
 use Rattle.decisions.specs.Decisions.Decision.{disabled, enabled}
 use Rattle.containers.specs.Attributes.{Attributes}
-use Rattle.document_model.specs.Model.{Table, newTable, Call, topLoad, framedLoad, unload, ask, enabledOf, listing, foresee, refused, loaded, removed, decision, features, serials, say, go, after, answers}
-use Rattle.document_model.specs.History.{BeneathIn, by, over, just, once, framed-by, history}
+use Rattle.document_model.specs.Model.{Table, newTable, Call, topLoad, framedLoad, unload, question, enabledFeatures, listing, forecastOf, refused, loaded, removed, decision, features, serials, answerTo, tableLeft, tableAfter, answers}
+use Rattle.document_model.specs.History.{BeneathIn, directly, through, last, earlier, framed-by, history}
 use Rattle.document_model.specs.Computing.{computing}
 
 abbrev camera : ℕ
@@ -32,10 +32,10 @@ down =
     ∷ topLoad [] (text "https://d.example")
     ∷ framedLoad 4 [] (text "null") (allowing [])
     ∷ unload 5
-    ∷ ask 5 camera []
-    ∷ ask 1 camera []
-    ∷ ask 3 camera []
-    ∷ ask 4 camera []
+    ∷ question 5 camera []
+    ∷ question 1 camera []
+    ∷ question 3 camera []
+    ∷ question 4 camera []
     ∷ listing 1 (7 ∷ 7 ∷ 7 ∷ [])
     ∷ []
 
@@ -51,7 +51,7 @@ bare = allowing (text "camera")
 
 pub beneath : BeneathIn (history down) 3 1
 unfolding computing
-beneath = over (once (once (once (once (once (once (once (once just)))))))) framed-by (by (once (once (once (once (once (once (once (once (once just))))))))) framed-by)
+beneath = through (earlier (earlier (earlier (earlier (earlier (earlier (earlier (earlier last)))))))) framed-by (directly (earlier (earlier (earlier (earlier (earlier (earlier (earlier (earlier (earlier last))))))))) framed-by)
 
 -- more never takes away: one item more, and one word more, each adds an Enabled in a grandchild
 abbrev family : List ℕ → List ℕ → List Call
@@ -59,9 +59,9 @@ family header allow =
     topLoad header (text "https://a.example")
     ∷ framedLoad 1 [] (text "https://b.example") (allowing allow)
     ∷ framedLoad 2 [] [] (allowing [])
-    ∷ ask 3 camera []
-    ∷ enabledOf 3
-    ∷ foresee 1 (allowing allow)
+    ∷ question 3 camera []
+    ∷ enabledFeatures 3
+    ∷ forecastOf 1 (allowing allow)
     ∷ []
 
 less-item : answers (family (text "camera=(self)") (text "camera")) ≡
@@ -85,7 +85,7 @@ unfolding computing
 more-word = refl
 
 -- a load that arrives elsewhere inherits something else than was forecast
-elsewhere : answers (topLoad [] (text "https://a.example") ∷ foresee 1 bare ∷ framedLoad 1 [] (text "https://c.example") bare ∷ enabledOf 2 ∷ framedLoad 1 [] (text "https://b.example") bare ∷ enabledOf 3 ∷ []) ≡
+elsewhere : answers (topLoad [] (text "https://a.example") ∷ forecastOf 1 bare ∷ framedLoad 1 [] (text "https://c.example") bare ∷ enabledFeatures 2 ∷ framedLoad 1 [] (text "https://b.example") bare ∷ enabledFeatures 3 ∷ []) ≡
     loaded 1 false ∷ features 64909 ∷ loaded 2 false ∷ features 64908 ∷ loaded 3 false ∷ features 64909 ∷ []
 unfolding computing
 elsewhere = refl
@@ -94,18 +94,18 @@ elsewhere = refl
 abbrev late : Table
 late = record { docs = []; next = 4294967295 }
 
-last-given : say (topLoad [] (text "null")) late ≡ loaded 4294967295 false
+last-given : answerTo (topLoad [] (text "null")) late ≡ loaded 4294967295 false
 unfolding computing
 last-given = refl
 
 abbrev spentTable : Table
-spentTable = go (topLoad [] (text "null")) late
+spentTable = tableLeft (topLoad [] (text "null")) late
 
-then-spent : say (topLoad [] (text "null")) spentTable ≡ refused Spent
+then-spent : answerTo (topLoad [] (text "null")) spentTable ≡ refused Spent
 unfolding computing
 then-spent = refl
 
-still-answers : say (ask 4294967295 camera []) spentTable ≡ decision enabled
+still-answers : answerTo (question 4294967295 camera []) spentTable ≡ decision enabled
 unfolding computing
 still-answers = refl
 
@@ -114,7 +114,7 @@ abbrev many : ℕ → List Call
 many zero = []
 many (suc n) = topLoad [] (text "null") ∷ many n
 
-seventeenth : say (topLoad [] (text "null")) (after (many 16)) ≡ refused Full
+seventeenth : answerTo (topLoad [] (text "null")) (tableAfter (many 16)) ≡ refused Full
 unfolding computing
 seventeenth = refl
 
@@ -128,20 +128,20 @@ unfolding computing
 word-added = record { earlier = []; later = []; feature = text "camera"; front = text "https://c.example" ∷ []; back = []; one = omega arith; word = text "https://b.example"; first = refl; second = refl }
 
 -- on a full table, 6 before 7
-full-first : say (topLoad [] (text "null")) (record { docs = after (many 16) .docs; next = 4294967296 }) ≡ refused Full
+full-first : answerTo (topLoad [] (text "null")) (record { docs = tableAfter (many 16) .docs; next = 4294967296 }) ≡ refused Full
 unfolding computing
 full-first = refl
 
 -- rows that a wrong definition would break: what is beneath goes too; 2 comes before 1; a `null` document isn't at its container's origin
-unloaded-rows : answers (topLoad [] (text "https://a.example") ∷ framedLoad 1 [] [] bare ∷ unload 1 ∷ enabledOf 2 ∷ []) ≡ loaded 1 false ∷ loaded 2 false ∷ removed 2 ∷ refused NotLoaded ∷ []
+unloaded-rows : answers (topLoad [] (text "https://a.example") ∷ framedLoad 1 [] [] bare ∷ unload 1 ∷ enabledFeatures 2 ∷ []) ≡ loaded 1 false ∷ loaded 2 false ∷ removed 2 ∷ refused NotLoaded ∷ []
 unfolding computing
 unloaded-rows = refl
 
-ordered-row : answers (ask 9 17 [] ∷ []) ≡ refused NoSuchFeature ∷ []
+ordered-row : answers (question 9 17 [] ∷ []) ≡ refused NoSuchFeature ∷ []
 unfolding computing
 ordered-row = refl
 
-null-row : answers (topLoad [] (text "https://a.example") ∷ framedLoad 1 [] (text "null") (allowing []) ∷ ask 2 camera [] ∷ framedLoad 1 [] [] (allowing []) ∷ ask 3 camera [] ∷ []) ≡
+null-row : answers (topLoad [] (text "https://a.example") ∷ framedLoad 1 [] (text "null") (allowing []) ∷ question 2 camera [] ∷ framedLoad 1 [] [] (allowing []) ∷ question 3 camera [] ∷ []) ≡
     loaded 1 false ∷ loaded 2 false ∷ decision disabled ∷ loaded 3 false ∷ decision enabled ∷ []
 unfolding computing
 null-row = refl

@@ -6,7 +6,7 @@ use mathlib.Core.List.{List, [], _∷_, _++_}
 use lib.ListN.{length, drop}
 use Rattle.containers.specs.Sandboxes.{sandboxes}
 use Rattle.containers.specs.Attributes.{Attributes}
-use Rattle.document_model.specs.Model.{Text, Table, newTable, Call, topLoad, framedLoad, unload, Answer, refused, loaded, removed, decision, features, serials, say, go}
+use Rattle.document_model.specs.Model.{Text, Table, newTable, Call, topLoad, framedLoad, unload, Answer, refused, loaded, removed, decision, features, serials, answerTo, tableLeft}
 
 pub record Event : Type 0 where
   pub call : Call
@@ -27,13 +27,13 @@ pub data Unloaded : Call → Answer → ℕ → Type 0 where
 
 -- events stand with the last one first
 pub data Happened (c : Call) (a : Answer) : List Event → Type 0 where
-  just : {es : List Event} → Happened c a (record { call = c; answer = a } ∷ es)
-  once : {e : Event} {es : List Event} → Happened c a es → Happened c a (e ∷ es)
+  last : {es : List Event} → Happened c a (record { call = c; answer = a } ∷ es)
+  earlier : {e : Event} {es : List Event} → Happened c a es → Happened c a (e ∷ es)
 
 -- "It is beneath the container that its load named, and beneath all that this one is beneath."
 pub data BeneathIn (es : List Event) : ℕ → ℕ → Type 0 where
-  by : {c : Call} {a : Answer} {e d : ℕ} → Happened c a es → Framed c a e d → BeneathIn es e d
-  over : {c : Call} {a : Answer} {e k d : ℕ} → Happened c a es → Framed c a e k → BeneathIn es k d → BeneathIn es e d
+  directly : {c : Call} {a : Answer} {e d : ℕ} → Happened c a es → Framed c a e d → BeneathIn es e d
+  through : {c : Call} {a : Answer} {e k d : ℕ} → Happened c a es → Framed c a e k → BeneathIn es k d → BeneathIn es e d
 
 -- "A document is loaded if an accepted load gave its serial and no accepted unload since has named it or a document that it was beneath."
 pub data LoadedIn : List Event → ℕ → Type 0 where
@@ -41,41 +41,41 @@ pub data LoadedIn : List Event → ℕ → Type 0 where
   still : {c : Call} {a : Answer} {es : List Event} {s : ℕ} → LoadedIn es s → ((u : ℕ) → Unloaded c a u → (u ≡ s → ⊥) × (BeneathIn es s u → ⊥)) → LoadedIn (record { call = c; answer = a } ∷ es) s
 
 -- the calls with their answers, the last one first
-unfoldable pub past : List Call → Table → List Event → List Event
-past [] t es = es
-past (c ∷ cs) t es = past cs (go c t) (record { call = c; answer = say c t } ∷ es)
+unfoldable pub eventsFrom : List Call → Table → List Event → List Event
+eventsFrom [] t es = es
+eventsFrom (c ∷ cs) t es = eventsFrom cs (tableLeft c t) (record { call = c; answer = answerTo c t } ∷ es)
 
 -- the history of a list of calls on a new table
 unfoldable pub history : List Call → List Event
-history cs = past cs newTable []
+history cs = eventsFrom cs newTable []
 
 -- ---- numbers and lists of serials
 
-abbrev pub loadOf : Answer → ℕ
-loadOf (refused n) = 0
-loadOf (loaded s m) = 1
-loadOf (removed n) = 0
-loadOf (decision d) = 0
-loadOf (features m) = 0
-loadOf (serials n run) = 0
+abbrev pub acceptedLoad : Answer → ℕ
+acceptedLoad (refused n) = 0
+acceptedLoad (loaded s m) = 1
+acceptedLoad (removed n) = 0
+acceptedLoad (decision d) = 0
+acceptedLoad (features m) = 0
+acceptedLoad (serials n run) = 0
 
-abbrev pub removedOf : Answer → ℕ
-removedOf (refused n) = 0
-removedOf (loaded s m) = 0
-removedOf (removed n) = n
-removedOf (decision d) = 0
-removedOf (features m) = 0
-removedOf (serials n run) = 0
+abbrev pub unloadAnswer : Answer → ℕ
+unloadAnswer (refused n) = 0
+unloadAnswer (loaded s m) = 0
+unloadAnswer (removed n) = n
+unloadAnswer (decision d) = 0
+unloadAnswer (features m) = 0
+unloadAnswer (serials n run) = 0
 
 -- how many loads were accepted
-unfoldable pub loadsIn : List Event → ℕ
-loadsIn [] = 0
-loadsIn (e ∷ es) = loadOf (e .answer) + loadsIn es
+unfoldable pub acceptedLoads : List Event → ℕ
+acceptedLoads [] = 0
+acceptedLoads (e ∷ es) = acceptedLoad (e .answer) + acceptedLoads es
 
 -- the sum of the unload answers
-unfoldable pub removedIn : List Event → ℕ
-removedIn [] = 0
-removedIn (e ∷ es) = removedOf (e .answer) + removedIn es
+unfoldable pub unloadSum : List Event → ℕ
+unloadSum [] = 0
+unloadSum (e ∷ es) = unloadAnswer (e .answer) + unloadSum es
 
 -- a number of a list
 pub data Member (n : ℕ) : List ℕ → Type 0 where

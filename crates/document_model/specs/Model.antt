@@ -28,11 +28,11 @@ Text = List ℕ
 
 -- ---- origins
 
-abbrev pub isGood : OriginSaid → Bool
-isGood saysEmpty = true
-isGood saysNull = true
-isGood (saysTuple o) = true
-isGood noOrigin = false
+abbrev pub isGoodOrigin : OriginSaid → Bool
+isGoodOrigin saysEmpty = true
+isGoodOrigin saysNull = true
+isGoodOrigin (saysTuple o) = true
+isGoodOrigin noOrigin = false
 
 abbrev pub isNull : OriginSaid → Bool
 isNull saysEmpty = false
@@ -41,11 +41,11 @@ isNull (saysTuple o) = false
 isNull noOrigin = false
 
 -- "A top-level load ... refuses empty with 3"
-abbrev pub isTop : OriginSaid → Bool
-isTop saysEmpty = false
-isTop saysNull = true
-isTop (saysTuple o) = true
-isTop noOrigin = false
+abbrev pub isGoodAtTop : OriginSaid → Bool
+isGoodAtTop saysEmpty = false
+isGoodAtTop saysNull = true
+isGoodAtTop (saysTuple o) = true
+isGoodAtTop noOrigin = false
 
 -- the origin of a document that is loaded under a serial, beside the container's: `null` is an opaque origin of its own
 abbrev pub arrivesAt : OriginSaid → Origin → ℕ → Origin
@@ -69,7 +69,7 @@ orFresh none = fresh
 -- ---- documents
 
 -- what no list changes: the serial; the serials of its container, of that one's container, and so on; the origin; the sandboxed mark
-pub record Who : Type 0 where
+pub record Identity : Type 0 where
   pub serial : ℕ
   pub above : List ℕ
   pub origin : Origin
@@ -77,7 +77,7 @@ pub record Who : Type 0 where
 
 -- with it what is inherited, bit n for feature n, and what the header declares, for each of the seventeen
 pub record Document : Type 0 where
-  pub who : Who
+  pub identity : Identity
   pub inherited : ℕ
   pub declared : List (Option Allowlist)
 
@@ -91,19 +91,19 @@ unfoldable pub declaredBy : Text → List (Option Allowlist)
 declaredBy h = valuesFrom (declares h) 0 featureCount
 
 abbrev pub policyOf : Document → Policy
-policyOf d = record { inherited = decisionAt (d .inherited); declared = λ n. getD (d .declared) n none; own = d .who .origin }
+policyOf d = record { inherited = decisionAt (d .inherited); declared = λ n. getD (d .declared) n none; own = d .identity .origin }
 
 -- ---- frames
 
 -- a document loaded in the frame is sandboxed
-unfoldable pub boxed : Who → Attributes → Bool
-boxed c a = isSandboxed (c .sandboxed) a
+unfoldable pub frameSandboxed : Identity → Attributes → Bool
+frameSandboxed c a = isSandboxed (c .sandboxed) a
 
-unfoldable pub declaredAt : Who → Attributes → Origin
-declaredAt c a = orFresh (declaredOrigin (c .sandboxed) a (c .origin))
+unfoldable pub frameDeclared : Identity → Attributes → Origin
+frameDeclared c a = orFresh (declaredOrigin (c .sandboxed) a (c .origin))
 
-abbrev pub frameOf : Who → Attributes → Frame
-frameOf c a = record { allowed = containerPolicy a; declared = declaredAt c a }
+abbrev pub frameOf : Identity → Attributes → Frame
+frameOf c a = record { allowed = containerPolicy a; declared = frameDeclared c a }
 
 -- ---- the table
 
@@ -120,25 +120,25 @@ elem n [] = false
 elem n (x ∷ xs) = eqb n x || elem n xs
 
 -- the document goes when a serial is unloaded: it has that serial, or is beneath it
-unfoldable pub goes : ℕ → Who → Bool
-goes s w = eqb s (w .serial) || elem s (w .above)
+unfoldable pub isAtOrBeneath : ℕ → Identity → Bool
+isAtOrBeneath s w = eqb s (w .serial) || elem s (w .above)
 
 unfoldable pub find : ℕ → List Document → Option Document
 find s [] = none
-find s (d ∷ ds) = pick (eqb s (d .who .serial)) (some d) (find s ds)
+find s (d ∷ ds) = pick (eqb s (d .identity .serial)) (some d) (find s ds)
 
-unfoldable pub kept : ℕ → List Document → List Document
-kept s [] = []
-kept s (d ∷ ds) = pick (goes s (d .who)) (kept s ds) (d ∷ kept s ds)
+unfoldable pub remaining : ℕ → List Document → List Document
+remaining s [] = []
+remaining s (d ∷ ds) = pick (isAtOrBeneath s (d .identity)) (remaining s ds) (d ∷ remaining s ds)
 
-unfoldable pub gone : ℕ → List Document → ℕ
-gone s [] = 0
-gone s (d ∷ ds) = pick (goes s (d .who)) (suc (gone s ds)) (gone s ds)
+unfoldable pub removedCount : ℕ → List Document → ℕ
+removedCount s [] = 0
+removedCount s (d ∷ ds) = pick (isAtOrBeneath s (d .identity)) (suc (removedCount s ds)) (removedCount s ds)
 
 -- the serials beneath a serial
-unfoldable pub under : ℕ → List Document → List ℕ
-under s [] = []
-under s (d ∷ ds) = pick (elem s (d .who .above)) (d .who .serial ∷ under s ds) (under s ds)
+unfoldable pub serialsBeneath : ℕ → List Document → List ℕ
+serialsBeneath s [] = []
+serialsBeneath s (d ∷ ds) = pick (elem s (d .identity .above)) (d .identity .serial ∷ serialsBeneath s ds) (serialsBeneath s ds)
 
 -- ---- the calls
 
@@ -149,12 +149,12 @@ pub data Call : Type 0 where
   framedLoad : ℕ → Text → Text → Attributes → Call
   unload : ℕ → Call
   -- document, feature, origin text
-  ask : ℕ → ℕ → Text → Call
-  enabledOf : ℕ → Call
+  question : ℕ → ℕ → Text → Call
+  enabledFeatures : ℕ → Call
   -- document, the lent run
   listing : ℕ → List ℕ → Call
   -- container
-  foresee : ℕ → Attributes → Call
+  forecastOf : ℕ → Attributes → Call
 
 pub data Answer : Type 0 where
   refused : Refusal → Answer
@@ -174,104 +174,104 @@ pub data Outcome : Type 0 where
   accept : Answer → Table → Outcome
 
 -- a refusal, unless a test passes
-unfoldable pub need : Refusal → Bool → Outcome → Outcome
-need n true k = k
-need n false k = refuse n
+unfoldable pub refuseUnless : Refusal → Bool → Outcome → Outcome
+refuseUnless n true k = k
+refuseUnless n false k = refuse n
 
 unfoldable pub withDocument : Option Document → (Document → Outcome) → Outcome
 withDocument none k = refuse NotLoaded
 withDocument (some d) k = k d
 
-abbrev pub short : Text → Bool
-short s = leb (length s) textBytes
+abbrev pub isShort : Text → Bool
+isShort s = leb (length s) textBytes
 
 -- "4 for input texts"
-unfoldable pub fits : Call → Bool
-fits (topLoad h o) = short h
-fits (framedLoad c h o a) = short h && short (a .allow) && short (a .sandbox)
-fits (unload s) = true
-fits (ask s f o) = true
-fits (enabledOf s) = true
-fits (listing s run) = true
-fits (foresee c a) = short (a .allow) && short (a .sandbox)
+unfoldable pub textsFit : Call → Bool
+textsFit (topLoad h o) = isShort h
+textsFit (framedLoad c h o a) = isShort h && isShort (a .allow) && isShort (a .sandbox)
+textsFit (unload s) = true
+textsFit (question s f o) = true
+textsFit (enabledFeatures s) = true
+textsFit (listing s run) = true
+textsFit (forecastOf c a) = isShort (a .allow) && isShort (a .sandbox)
 
 -- a document is loaded, if there is room and a serial
-unfoldable pub load : Table → Bool → (Who → Document) → (ℕ → Who) → Outcome
-load t malformed make who =
-    need Full (ltb (length (t .docs)) documentLimit)
-    (need Spent (leb (t .next) lastSerial)
-    (accept (loaded (t .next) malformed) (record { docs = t .docs ++ (make (who (t .next)) ∷ []); next = suc (t .next) })))
+unfoldable pub load : Table → Bool → (Identity → Document) → (ℕ → Identity) → Outcome
+load t malformed make identity =
+    refuseUnless Full (ltb (length (t .docs)) documentLimit)
+    (refuseUnless Spent (leb (t .next) lastSerial)
+    (accept (loaded (t .next) malformed) (record { docs = t .docs ++ (make (identity (t .next)) ∷ []); next = suc (t .next) })))
 
-unfoldable pub topWho : OriginSaid → ℕ → Who
-topWho said n = record { serial = n; above = []; origin = arrivesAt said (opaque n) n; sandboxed = false }
+unfoldable pub topIdentity : OriginSaid → ℕ → Identity
+topIdentity said n = record { serial = n; above = []; origin = arrivesAt said (opaque n) n; sandboxed = false }
 
-unfoldable pub framedWho : Who → Attributes → OriginSaid → ℕ → Who
-framedWho c a said n = record { serial = n; above = c .serial ∷ c .above; origin = arrivesAt said (c .origin) n; sandboxed = boxed c a }
+unfoldable pub framedIdentity : Identity → Attributes → OriginSaid → ℕ → Identity
+framedIdentity c a said n = record { serial = n; above = c .serial ∷ c .above; origin = arrivesAt said (c .origin) n; sandboxed = frameSandboxed c a }
 
-unfoldable pub topDocument : Text → Who → Document
-topDocument h w = record { who = w; inherited = maskOf (λ n. inheritedTop); declared = declaredBy h }
+unfoldable pub topDocument : Text → Identity → Document
+topDocument h w = record { identity = w; inherited = maskOf (λ n. inheritedTop); declared = declaredBy h }
 
-unfoldable pub framedDocument : Document → Text → Attributes → Who → Document
+unfoldable pub framedDocument : Document → Text → Attributes → Identity → Document
 framedDocument c h a w =
-    record { who = w; inherited = maskOf (inheritedIn (policyOf c) (frameOf (c .who) a) (w .origin)); declared = declaredBy h }
+    record { identity = w; inherited = maskOf (inheritedIn (policyOf c) (frameOf (c .identity) a) (w .origin)); declared = declaredBy h }
 
 -- the serials stored in a lent run, places after them unchanged
 unfoldable pub stored : List ℕ → List ℕ → List ℕ
 stored ss run = ss ++ drop (length ss) run
 
 -- the call, its texts being short enough
-unfoldable pub body : Call → Table → Outcome
-body (topLoad h o) t =
-    need BadOrigin (isTop (originOf o))
-    (load t (isMalformed h) (topDocument h) (topWho (originOf o)))
-body (framedLoad c h o a) t =
-    need BadOrigin (isGood (originOf o))
-    (need BadOrigin (isGood (originOf (a .src)))
+unfoldable pub fittingOutcome : Call → Table → Outcome
+fittingOutcome (topLoad h o) t =
+    refuseUnless BadOrigin (isGoodAtTop (originOf o))
+    (load t (isMalformed h) (topDocument h) (topIdentity (originOf o)))
+fittingOutcome (framedLoad c h o a) t =
+    refuseUnless BadOrigin (isGoodOrigin (originOf o))
+    (refuseUnless BadOrigin (isGoodOrigin (originOf (a .src)))
     (withDocument (find c (t .docs)) λ d.
-    need Sandbox (not (boxed (d .who) a) || isNull (originOf o))
-    (load t (isMalformed h) (framedDocument d h a) (framedWho (d .who) a (originOf o)))))
-body (unload s) t =
+    refuseUnless Sandbox (not (frameSandboxed (d .identity) a) || isNull (originOf o))
+    (load t (isMalformed h) (framedDocument d h a) (framedIdentity (d .identity) a (originOf o)))))
+fittingOutcome (unload s) t =
     withDocument (find s (t .docs)) λ d.
-    accept (removed (gone s (t .docs))) (record { docs = kept s (t .docs); next = t .next })
-body (ask s f o) t =
-    need BadOrigin (isGood (originOf o))
-    (need NoSuchFeature (ltb f featureCount)
+    accept (removed (removedCount s (t .docs))) (record { docs = remaining s (t .docs); next = t .next })
+fittingOutcome (question s f o) t =
+    refuseUnless BadOrigin (isGoodOrigin (originOf o))
+    (refuseUnless NoSuchFeature (ltb f featureCount)
     (withDocument (find s (t .docs)) λ d.
-    accept (decision (questionIn (policyOf d) f (askedAt (originOf o) (d .who .origin)))) t))
-body (enabledOf s) t =
+    accept (decision (questionIn (policyOf d) f (askedAt (originOf o) (d .identity .origin)))) t))
+fittingOutcome (enabledFeatures s) t =
     withDocument (find s (t .docs)) λ d.
     accept (features (enabledMask (policyOf d))) t
-body (listing s run) t =
+fittingOutcome (listing s run) t =
     withDocument (find s (t .docs)) λ d.
-    need Small (leb (length (under s (t .docs))) (length run))
-    (accept (serials (length (under s (t .docs))) (stored (under s (t .docs)) run)) t)
-body (foresee c a) t =
-    need BadOrigin (isGood (originOf (a .src)))
+    refuseUnless Small (leb (length (serialsBeneath s (t .docs))) (length run))
+    (accept (serials (length (serialsBeneath s (t .docs))) (stored (serialsBeneath s (t .docs)) run)) t)
+fittingOutcome (forecastOf c a) t =
+    refuseUnless BadOrigin (isGoodOrigin (originOf (a .src)))
     (withDocument (find c (t .docs)) λ d.
-    accept (features (forecast (policyOf d) (frameOf (d .who) a))) t)
+    accept (features (forecast (policyOf d) (frameOf (d .identity) a))) t)
 
-unfoldable pub step : Call → Table → Outcome
-step c t = need TooLong (fits c) (body c t)
+unfoldable pub outcome : Call → Table → Outcome
+outcome c t = refuseUnless TooLong (textsFit c) (fittingOutcome c t)
 
 -- what the call answers, and the table that it leaves: after a refusal the one that it got
-abbrev pub saidIn : Outcome → Answer
-saidIn (refuse n) = refused n
-saidIn (accept a t) = a
+abbrev pub answerIn : Outcome → Answer
+answerIn (refuse n) = refused n
+answerIn (accept a t) = a
 
-abbrev pub leftIn : Outcome → Table → Table
-leftIn (refuse n) t = t
-leftIn (accept a u) t = u
+abbrev pub tableIn : Outcome → Table → Table
+tableIn (refuse n) t = t
+tableIn (accept a u) t = u
 
-unfoldable pub say : Call → Table → Answer
-say c t = saidIn (step c t)
+unfoldable pub answerTo : Call → Table → Answer
+answerTo c t = answerIn (outcome c t)
 
-unfoldable pub go : Call → Table → Table
-go c t = leftIn (step c t) t
+unfoldable pub tableLeft : Call → Table → Table
+tableLeft c t = tableIn (outcome c t) t
 
 -- ---- lists of calls on a new table
 
-unfoldable pub after : List Call → Table
-after cs = leftBy go cs newTable
+unfoldable pub tableAfter : List Call → Table
+tableAfter cs = leftBy tableLeft cs newTable
 
 unfoldable pub answers : List Call → List Answer
-answers cs = answersBy say go cs newTable
+answers cs = answersBy answerTo tableLeft cs newTable

@@ -12,8 +12,8 @@ use Rattle.origins.specs.Origins.{originOf}
 use Rattle.origins.specs.Origins.OriginSaid.{saysEmpty, saysNull, noOrigin}
 use Rattle.containers.specs.Sandboxes.{sandboxes}
 use Rattle.containers.specs.Attributes.{Attributes}
-use Rattle.document_model.specs.Model.{Text, Call, topLoad, framedLoad, unload, ask, enabledOf, listing, foresee}
-use Rattle.document_model.specs.History.{Event, LoadedIn, SandboxedIn, AreLoaded, AreBeneath, loadsIn}
+use Rattle.document_model.specs.Model.{Text, Call, topLoad, framedLoad, unload, question, enabledFeatures, listing, forecastOf}
+use Rattle.document_model.specs.History.{Event, LoadedIn, SandboxedIn, AreLoaded, AreBeneath, acceptedLoads}
 
 -- "Order: 4 for input texts, 3 for the document's or question's origin, 3 for src, 2, 1, 5, 6, 7, 8, 4 for output, 9."
 pub data Row : Type 0 where
@@ -51,17 +51,17 @@ pub data Input : Call → Text → Type 0 where
   framed-header : {c : ℕ} {h o : Text} {a : Attributes} → Input (framedLoad c h o a) h
   framed-allow : {c : ℕ} {h o : Text} {a : Attributes} → Input (framedLoad c h o a) (a .allow)
   framed-sandbox : {c : ℕ} {h o : Text} {a : Attributes} → Input (framedLoad c h o a) (a .sandbox)
-  foresee-allow : {c : ℕ} {a : Attributes} → Input (foresee c a) (a .allow)
-  foresee-sandbox : {c : ℕ} {a : Attributes} → Input (foresee c a) (a .sandbox)
+  forecast-allow : {c : ℕ} {a : Attributes} → Input (forecastOf c a) (a .allow)
+  forecast-sandbox : {c : ℕ} {a : Attributes} → Input (forecastOf c a) (a .sandbox)
 
 -- the call names a serial
 pub data Names : Call → ℕ → Type 0 where
   framed-names : {c : ℕ} {h o : Text} {a : Attributes} → Names (framedLoad c h o a) c
   unload-names : {s : ℕ} → Names (unload s) s
-  ask-names : {s f : ℕ} {o : Text} → Names (ask s f o) s
-  enabled-names : {s : ℕ} → Names (enabledOf s) s
+  question-names : {s f : ℕ} {o : Text} → Names (question s f o) s
+  enabled-names : {s : ℕ} → Names (enabledFeatures s) s
   listing-names : {s : ℕ} {run : List ℕ} → Names (listing s run) s
-  foresee-names : {c : ℕ} {a : Attributes} → Names (foresee c a) c
+  forecast-names : {c : ℕ} {a : Attributes} → Names (forecastOf c a) c
 
 pub data IsLoad : Call → Type 0 where
   is-top : {h o : Text} → IsLoad (topLoad h o)
@@ -73,15 +73,15 @@ pub data Holds (es : List Event) : Call → Row → Type 0 where
   top-bad : {h o : Text} → originOf o ≡ noOrigin → Holds es (topLoad h o) badOrigin
   top-empty : {h o : Text} → originOf o ≡ saysEmpty → Holds es (topLoad h o) badOrigin
   framed-bad : {c : ℕ} {h o : Text} {a : Attributes} → originOf o ≡ noOrigin → Holds es (framedLoad c h o a) badOrigin
-  ask-bad : {s f : ℕ} {o : Text} → originOf o ≡ noOrigin → Holds es (ask s f o) badOrigin
+  question-bad : {s f : ℕ} {o : Text} → originOf o ≡ noOrigin → Holds es (question s f o) badOrigin
   framed-src : {c : ℕ} {h o : Text} {a : Attributes} → originOf (a .src) ≡ noOrigin → Holds es (framedLoad c h o a) badSrc
-  foresee-src : {c : ℕ} {a : Attributes} → originOf (a .src) ≡ noOrigin → Holds es (foresee c a) badSrc
-  over : {s f : ℕ} {o : Text} → featureCount ≤ f → Holds es (ask s f o) noFeature
+  forecast-src : {c : ℕ} {a : Attributes} → originOf (a .src) ≡ noOrigin → Holds es (forecastOf c a) badSrc
+  over-sixteen : {s f : ℕ} {o : Text} → featureCount ≤ f → Holds es (question s f o) noFeature
   closed : {c : Call} (s : ℕ) → Names c s → (LoadedIn es s → ⊥) → Holds es c notLoaded
   in-container : {c : ℕ} {h o : Text} {a : Attributes} → SandboxedIn es c → (originOf o ≡ saysNull → ⊥) → Holds es (framedLoad c h o a) sandboxed
   in-attribute : {c : ℕ} {h o : Text} {a : Attributes} → sandboxes a ≡ true → (originOf o ≡ saysNull → ⊥) → Holds es (framedLoad c h o a) sandboxed
   sixteen : {c : Call} (l : List ℕ) → IsLoad c → AreLoaded es l → length l ≡ documentLimit → Holds es c full
-  all-given : {c : Call} → IsLoad c → loadsIn es ≡ lastSerial → Holds es c spent
+  all-given : {c : Call} → IsLoad c → acceptedLoads es ≡ lastSerial → Holds es c spent
   short-run : {s : ℕ} {run : List ℕ} (l : List ℕ) → AreBeneath es s l → length run < length l → Holds es (listing s run) small
 
 -- the first row whose condition holds

@@ -35,9 +35,9 @@ use Rattle.decisions.proofs.Laws.{stays-self, frame-self, question-in-stays, in
 use Rattle.decisions.proofs.Laws as laws
 use Rattle.document_model.specs.Runs.{leftBy, answersBy, Each, no-more, each}
 use Rattle.containers.specs.Attributes.{Attributes}
-use Rattle.document_model.specs.Model.{Text, isGood, isNull, isTop, arrivesAt, askedAt, Who, Document, valuesFrom, declaredBy, policyOf, boxed, declaredAt, orFresh, frameOf, Table, newTable, elem, goes, find, kept, under, gone, Call, topLoad, framedLoad, unload, ask, enabledOf, listing, foresee, Answer, refused, loaded, removed, decision, features, serials, Outcome, refuse, accept, need, withDocument, fits, load, topWho, framedWho, topDocument, framedDocument, stored, body, step, saidIn, leftIn, say, go, after, answers}
-use Rattle.document_model.specs.Claims.{Richer, item-top, item-framed, word-framed, word-foresee, isAccepted, Keeps, equal, enabled-stays, bits-stay}
-use Rattle.document_model.proofs.Runs.{Follow, two-runs}
+use Rattle.document_model.specs.Model.{Text, isGoodOrigin, isNull, isGoodAtTop, arrivesAt, askedAt, Identity, Document, valuesFrom, declaredBy, policyOf, frameSandboxed, frameDeclared, orFresh, frameOf, Table, newTable, elem, isAtOrBeneath, find, remaining, serialsBeneath, removedCount, Call, topLoad, framedLoad, unload, question, enabledFeatures, listing, forecastOf, Answer, refused, loaded, removed, decision, features, serials, Outcome, refuse, accept, refuseUnless, withDocument, textsFit, load, topIdentity, framedIdentity, topDocument, framedDocument, stored, fittingOutcome, outcome, answerIn, tableIn, answerTo, tableLeft, tableAfter, answers}
+use Rattle.document_model.specs.Claims.{OneMore, item-top, item-framed, word-framed, word-forecast, isAccepted, Keeps, equal, enabled-stays, bits-stay}
+use Rattle.document_model.proofs.TwoRuns.{Follow, two-runs}
 
 -- ---- more
 
@@ -55,14 +55,14 @@ pub data ShapeMore : Call → Call → Type 0 where
   top-more : {h g o : Text} → HeaderMore h g → ShapeMore (topLoad h o) (topLoad g o)
   framed-more : {c : ℕ} {h g o : Text} {a b : Attributes} → HeaderMore h g → AttributesMore a b → ShapeMore (framedLoad c h o a) (framedLoad c g o b)
   unload-more : {s : ℕ} → ShapeMore (unload s) (unload s)
-  ask-more : {s f : ℕ} {o : Text} → ShapeMore (ask s f o) (ask s f o)
-  enabled-more : {s : ℕ} → ShapeMore (enabledOf s) (enabledOf s)
+  question-more : {s f : ℕ} {o : Text} → ShapeMore (question s f o) (question s f o)
+  enabled-more : {s : ℕ} → ShapeMore (enabledFeatures s) (enabledFeatures s)
   listing-more : {s : ℕ} {run : List ℕ} → ShapeMore (listing s run) (listing s run)
-  foresee-more : {c : ℕ} {a b : Attributes} → AttributesMore a b → ShapeMore (foresee c a) (foresee c b)
+  forecast-more : {c : ℕ} {a b : Attributes} → AttributesMore a b → ShapeMore (forecastOf c a) (forecastOf c b)
 
 -- the second call says at least as much, and 4 falls on both or on neither
 pub record CallMore (c d : Call) : Type 0 where
-  pub same-fit : fits c ≡ fits d
+  pub same-fit : textsFit c ≡ textsFit d
   pub shape : ShapeMore c d
 
 header-self : (h : Text) → HeaderMore h h
@@ -75,10 +75,10 @@ shape-self : (c : Call) → ShapeMore c c
 shape-self (topLoad h o) = top-more (header-self h)
 shape-self (framedLoad c h o a) = framed-more (header-self h) (attributes-self a)
 shape-self (unload s) = unload-more
-shape-self (ask s f o) = ask-more
-shape-self (enabledOf s) = enabled-more
+shape-self (question s f o) = question-more
+shape-self (enabledFeatures s) = enabled-more
 shape-self (listing s run) = listing-more
-shape-self (foresee c a) = foresee-more (attributes-self a)
+shape-self (forecastOf c a) = forecast-more (attributes-self a)
 
 pub call-self : (c : Call) → CallMore c c
 call-self c = record { same-fit = refl; shape = shape-self c }
@@ -92,17 +92,17 @@ word-src (word-more w) = refl
 word-attributes : {a b : Attributes} → WordMore a b → AttributesMore a b
 word-attributes w = record { allows-more = word-as-wide w; same-src = word-src w; same-sandboxed = word-sandboxed w; same-declared = word-declared w }
 
-pub richer-shape : {c d : Call} → Richer c d → ShapeMore c d
-richer-shape (item-top {h = h} {g = g} i) = top-more (item-header h g i)
-richer-shape (item-framed {h = h} {g = g} {a = a} i) = framed-more (item-header h g i) (attributes-self a)
-richer-shape (word-framed {h = h} w) = framed-more (header-self h) (word-attributes w)
-richer-shape (word-foresee w) = foresee-more (word-attributes w)
+pub one-more-shape : {c d : Call} → OneMore c d → ShapeMore c d
+one-more-shape (item-top {h = h} {g = g} i) = top-more (item-header h g i)
+one-more-shape (item-framed {h = h} {g = g} {a = a} i) = framed-more (item-header h g i) (attributes-self a)
+one-more-shape (word-framed {h = h} w) = framed-more (header-self h) (word-attributes w)
+one-more-shape (word-forecast w) = forecast-more (word-attributes w)
 
 -- ---- documents
 
 pub data DocumentMore : Document → Document → Type 0 where
-  document-more : (w : Who) (i j : ℕ) (l m : List (Option Allowlist)) → ((n : ℕ) → Stays (decisionAt i n) (decisionAt j n)) → ((n : ℕ) → AsWide (getD l n none) (getD m n none))
-      → DocumentMore (record { who = w; inherited = i; declared = l }) (record { who = w; inherited = j; declared = m })
+  document-more : (w : Identity) (i j : ℕ) (l m : List (Option Allowlist)) → ((n : ℕ) → Stays (decisionAt i n) (decisionAt j n)) → ((n : ℕ) → AsWide (getD l n none) (getD m n none))
+      → DocumentMore (record { identity = w; inherited = i; declared = l }) (record { identity = w; inherited = j; declared = m })
 
 pub data DocumentsMore : List Document → List Document → Type 0 where
   none-more : DocumentsMore [] []
@@ -122,8 +122,8 @@ data FoundMore : Option Document → Option Document → Type 0 where
 wider : {x y : Document} → DocumentMore x y → WiderPolicy (policyOf x) (policyOf y)
 wider (document-more w i j l m h p) = record { own = refl; inherits = h; declares = p }
 
-frames : (w : Who) {a b : Attributes} → AttributesMore a b → WiderFrame (frameOf w a) (frameOf w b)
-unfolding declaredAt
+frames : (w : Identity) {a b : Attributes} → AttributesMore a b → WiderFrame (frameOf w a) (frameOf w b)
+unfolding frameDeclared
 frames w h = record { declared = ap orFresh (h .same-declared (w .sandboxed) (w .origin)); allows = h .allows-more }
 
 -- the seventeen, place by place
@@ -154,20 +154,20 @@ unfolding pick
 either-more true u v = u
 either-more false u v = v
 
-kept-more : {ds es : List Document} (s : ℕ) → DocumentsMore ds es → DocumentsMore (kept s ds) (kept s es)
-unfolding kept
-kept-more s none-more = none-more
-kept-more s (also-more (document-more w i j l m h p) r) = either-more (goes s w) (kept-more s r) (also-more (document-more w i j l m h p) (kept-more s r))
+remaining-more : {ds es : List Document} (s : ℕ) → DocumentsMore ds es → DocumentsMore (remaining s ds) (remaining s es)
+unfolding remaining
+remaining-more s none-more = none-more
+remaining-more s (also-more (document-more w i j l m h p) r) = either-more (isAtOrBeneath s w) (remaining-more s r) (also-more (document-more w i j l m h p) (remaining-more s r))
 
-gone-more : {ds es : List Document} (s : ℕ) → DocumentsMore ds es → gone s ds ≡ gone s es
-unfolding gone
-gone-more s none-more = refl
-gone-more s (also-more (document-more w i j l m h p) r) = ap (λ (n : ℕ). pick (goes s w) (suc n) n) (gone-more s r)
+removed-more : {ds es : List Document} (s : ℕ) → DocumentsMore ds es → removedCount s ds ≡ removedCount s es
+unfolding removedCount
+removed-more s none-more = refl
+removed-more s (also-more (document-more w i j l m h p) r) = ap (λ (n : ℕ). pick (isAtOrBeneath s w) (suc n) n) (removed-more s r)
 
-under-more : {ds es : List Document} (s : ℕ) → DocumentsMore ds es → under s ds ≡ under s es
-unfolding under
-under-more s none-more = refl
-under-more s (also-more (document-more w i j l m h p) r) = ap (λ (l : List ℕ). pick (elem s (w .above)) (w .serial ∷ l) l) (under-more s r)
+beneath-more : {ds es : List Document} (s : ℕ) → DocumentsMore ds es → serialsBeneath s ds ≡ serialsBeneath s es
+unfolding serialsBeneath
+beneath-more s none-more = refl
+beneath-more s (also-more (document-more w i j l m h p) r) = ap (λ (l : List ℕ). pick (elem s (w .above)) (w .serial ∷ l) l) (beneath-more s r)
 
 length-more : {ds es : List Document} → DocumentsMore ds es → length ds ≡ length es
 length-more none-more = refl
@@ -179,30 +179,30 @@ push-more (also-more e r) d = also-more e (push-more r d)
 
 -- ---- outcomes
 
-need-more : (n : Refusal) (b : Bool) {k l : Outcome} → OutcomeMore k l → OutcomeMore (need n b k) (need n b l)
-unfolding need
-need-more n true h = h
-need-more n false h = alike n
+unless-more : (n : Refusal) (b : Bool) {k l : Outcome} → OutcomeMore k l → OutcomeMore (refuseUnless n b k) (refuseUnless n b l)
+unfolding refuseUnless
+unless-more n true h = h
+unless-more n false h = alike n
 
-src-more : {a b : Attributes} → AttributesMore a b → {k l : Outcome} → OutcomeMore k l → OutcomeMore (need BadOrigin (isGood (originOf (a .src))) k) (need BadOrigin (isGood (originOf (b .src))) l)
-src-more {a} m {k} {l} h = subst (λ (s : Text). OutcomeMore (need BadOrigin (isGood (originOf (a .src))) k) (need BadOrigin (isGood (originOf s)) l)) (m .same-src) (need-more BadOrigin _ h)
+src-more : {a b : Attributes} → AttributesMore a b → {k l : Outcome} → OutcomeMore k l → OutcomeMore (refuseUnless BadOrigin (isGoodOrigin (originOf (a .src))) k) (refuseUnless BadOrigin (isGoodOrigin (originOf (b .src))) l)
+src-more {a} m {k} {l} h = subst (λ (s : Text). OutcomeMore (refuseUnless BadOrigin (isGoodOrigin (originOf (a .src))) k) (refuseUnless BadOrigin (isGoodOrigin (originOf s)) l)) (m .same-src) (unless-more BadOrigin _ h)
 
 with-more : {x y : Option Document} {k l : Document → Outcome} → FoundMore x y → ((d e : Document) → DocumentMore d e → OutcomeMore (k d) (l e)) → OutcomeMore (withDocument x k) (withDocument y l)
 unfolding withDocument
 with-more not-found h = alike NotLoaded
 with-more (found d) h = h _ _ d
 
-load-more : {t u : Table} {b c : Bool} {x y : Who → Document} → TableMore t u → b ≡ c → ((w : Who) → DocumentMore (x w) (y w)) → (who other : ℕ → Who) → ((n : ℕ) → who n ≡ other n) → OutcomeMore (load t b x who) (load u c y other)
+load-more : {t u : Table} {b c : Bool} {x y : Identity → Document} → TableMore t u → b ≡ c → ((w : Identity) → DocumentMore (x w) (y w)) → (identity other : ℕ → Identity) → ((n : ℕ) → identity n ≡ other n) → OutcomeMore (load t b x identity) (load u c y other)
 unfolding load
-load-more {b = b} {x = x} {y = y} (table-more n {ds = ds} r) e h who other same =
+load-more {b = b} {x = x} {y = y} (table-more n {ds = ds} r) e h identity other same =
     rw (← length-more r, ← e)
-    (need-more Full (ltb (length ds) documentLimit) (need-more Spent (leb n lastSerial) (more (equal (loaded n b)) (table-more (suc n) (push-more r (subst (λ (w : Who). DocumentMore (x (who n)) (y w)) (same n) (h (who n))))))))
+    (unless-more Full (ltb (length ds) documentLimit) (unless-more Spent (leb n lastSerial) (more (equal (loaded n b)) (table-more (suc n) (push-more r (subst (λ (w : Identity). DocumentMore (x (identity n)) (y w)) (same n) (h (identity n))))))))
 
-top-document-more : {h g : Text} → HeaderMore h g → (w : Who) → DocumentMore (topDocument h w) (topDocument g w)
+top-document-more : {h g : Text} → HeaderMore h g → (w : Identity) → DocumentMore (topDocument h w) (topDocument g w)
 unfolding topDocument
 top-document-more {h} {g} r w = document-more w _ _ (declaredBy h) (declaredBy g) (λ n. stays-self _) (declared-more r)
 
-framed-document-more : {d e : Document} {h g : Text} {a b : Attributes} → DocumentMore d e → HeaderMore h g → AttributesMore a b → (w : Who) → DocumentMore (framedDocument d h a w) (framedDocument e g b w)
+framed-document-more : {d e : Document} {h g : Text} {a b : Attributes} → DocumentMore d e → HeaderMore h g → AttributesMore a b → (w : Identity) → DocumentMore (framedDocument d h a w) (framedDocument e g b w)
 unfolding framedDocument
 framed-document-more {d} {e} {h = x} {g = y} {a} {b} (document-more v i j l m h p) r q w =
     document-more w _ _ (declaredBy x) (declaredBy y)
@@ -210,97 +210,97 @@ framed-document-more {d} {e} {h = x} {g = y} {a} {b} (document-more v i j l m h 
     (λ n low. inherited-in-stays (policyOf d) (policyOf e) (wider (document-more v i j l m h p)) (frameOf v a) (frameOf v b) (frames v q) (w .origin) n))
     (declared-more r)
 
-same-box : (v : Who) {a b : Attributes} → AttributesMore a b → boxed v a ≡ boxed v b
-unfolding boxed
-same-box v q = q .same-sandboxed (v .sandboxed)
+same-mark : (v : Identity) {a b : Attributes} → AttributesMore a b → frameSandboxed v a ≡ frameSandboxed v b
+unfolding frameSandboxed
+same-mark v q = q .same-sandboxed (v .sandboxed)
 
-same-who : (v : Who) {a b : Attributes} → AttributesMore a b → (said : OriginSaid) (n : ℕ) → framedWho v a said n ≡ framedWho v b said n
-unfolding framedWho
-same-who v q said n = rw (same-box v q)
+same-identity : (v : Identity) {a b : Attributes} → AttributesMore a b → (said : OriginSaid) (n : ℕ) → framedIdentity v a said n ≡ framedIdentity v b said n
+unfolding framedIdentity
+same-identity v q said n = rw (same-mark v q)
 
 framed-load-more : {t u : Table} {d e : Document} {h g : Text} {a b : Attributes} → TableMore t u → DocumentMore d e → HeaderMore h g → AttributesMore a b → (said : OriginSaid) →
-    OutcomeMore (need Sandbox (not (boxed (d .who) a) || isNull said) (load t (isMalformed h) (framedDocument d h a) (framedWho (d .who) a said)))
-    (need Sandbox (not (boxed (e .who) b) || isNull said) (load u (isMalformed g) (framedDocument e g b) (framedWho (e .who) b said)))
+    OutcomeMore (refuseUnless Sandbox (not (frameSandboxed (d .identity) a) || isNull said) (load t (isMalformed h) (framedDocument d h a) (framedIdentity (d .identity) a said)))
+    (refuseUnless Sandbox (not (frameSandboxed (e .identity) b) || isNull said) (load u (isMalformed g) (framedDocument e g b) (framedIdentity (e .identity) b said)))
 framed-load-more {a = a} {b = b} t (document-more v i j l m h p) r q said =
-    rw (← same-box v q) (need-more Sandbox _ (load-more t (r .same-form) (framed-document-more (document-more v i j l m h p) r q) (framedWho v a said) (framedWho v b said) (same-who v q said)))
+    rw (← same-mark v q) (unless-more Sandbox _ (load-more t (r .same-form) (framed-document-more (document-more v i j l m h p) r q) (framedIdentity v a said) (framedIdentity v b said) (same-identity v q said)))
 
-ask-said-more : {t u : Table} {d e : Document} → TableMore t u → DocumentMore d e → (f : ℕ) (said : OriginSaid) →
-    OutcomeMore (accept (decision (questionIn (policyOf d) f (askedAt said (d .who .origin)))) t) (accept (decision (questionIn (policyOf e) f (askedAt said (e .who .origin)))) u)
-ask-said-more {d = d} {e = e} t (document-more w i j l m h p) f said =
+question-said-more : {t u : Table} {d e : Document} → TableMore t u → DocumentMore d e → (f : ℕ) (said : OriginSaid) →
+    OutcomeMore (accept (decision (questionIn (policyOf d) f (askedAt said (d .identity .origin)))) t) (accept (decision (questionIn (policyOf e) f (askedAt said (e .identity .origin)))) u)
+question-said-more {d = d} {e = e} t (document-more w i j l m h p) f said =
     more (enabled-stays (question-in-stays (policyOf d) (policyOf e) (wider (document-more w i j l m h p)) f (askedAt said (w .origin)))) t
 
 enabled-said-more : {t u : Table} {d e : Document} → TableMore t u → DocumentMore d e → OutcomeMore (accept (features (enabledMask (policyOf d))) t) (accept (features (enabledMask (policyOf e))) u)
 enabled-said-more {d = d} {e = e} t m = more (bits-stay (laws.enabled-stays (policyOf d) (policyOf e) (wider m))) t
 
-foresee-said-more : {t u : Table} {d e : Document} {a b : Attributes} → TableMore t u → DocumentMore d e → AttributesMore a b →
-    OutcomeMore (accept (features (forecast (policyOf d) (frameOf (d .who) a))) t) (accept (features (forecast (policyOf e) (frameOf (e .who) b))) u)
-foresee-said-more {d = d} {e = e} {a = a} {b = b} t (document-more w i j l m h p) q =
+forecast-said-more : {t u : Table} {d e : Document} {a b : Attributes} → TableMore t u → DocumentMore d e → AttributesMore a b →
+    OutcomeMore (accept (features (forecast (policyOf d) (frameOf (d .identity) a))) t) (accept (features (forecast (policyOf e) (frameOf (e .identity) b))) u)
+forecast-said-more {d = d} {e = e} {a = a} {b = b} t (document-more w i j l m h p) q =
     more (bits-stay (forecast-stays (policyOf d) (policyOf e) (frameOf w a) (frameOf w b) (wider (document-more w i j l m h p)) (frames w q))) t
 
 -- a call that says as much, on a table with as much
-body-more : {c d : Call} {t u : Table} → ShapeMore c d → TableMore t u → OutcomeMore (body c t) (body d u)
-unfolding body
-body-more (top-more {o = o} l) t = need-more BadOrigin _ (load-more t (l .same-form) (top-document-more l) (topWho (originOf o)) (topWho (originOf o)) (λ n. refl))
-body-more (framed-more {c = c} {o = o} l m) (table-more n r) =
-    need-more BadOrigin _ (src-more m (with-more (find-more c r) λ d e h. framed-load-more (table-more n r) h l m (originOf o)))
-body-more (unload-more {s = s}) (table-more n r) =
-    with-more (find-more s r) λ d e h. rw (← gone-more s r) (more (equal _) (table-more n (kept-more s r)))
-body-more (ask-more {s = s} {f = f} {o = o}) (table-more n r) =
-    need-more BadOrigin _ (need-more NoSuchFeature _ (with-more (find-more s r) λ d e h. ask-said-more (table-more n r) h f (originOf o)))
-body-more (enabled-more {s = s}) (table-more n r) = with-more (find-more s r) λ d e h. enabled-said-more (table-more n r) h
-body-more (listing-more {s = s} {run = run}) (table-more n {ds = ds} r) =
-    with-more (find-more s r) λ d e h. rw (← under-more s r) (need-more Small _ (more (equal _) (table-more n r)))
-body-more (foresee-more {c = c} m) (table-more n r) =
-    src-more m (with-more (find-more c r) λ d e h. foresee-said-more (table-more n r) h m)
+fitting-more : {c d : Call} {t u : Table} → ShapeMore c d → TableMore t u → OutcomeMore (fittingOutcome c t) (fittingOutcome d u)
+unfolding fittingOutcome
+fitting-more (top-more {o = o} l) t = unless-more BadOrigin _ (load-more t (l .same-form) (top-document-more l) (topIdentity (originOf o)) (topIdentity (originOf o)) (λ n. refl))
+fitting-more (framed-more {c = c} {o = o} l m) (table-more n r) =
+    unless-more BadOrigin _ (src-more m (with-more (find-more c r) λ d e h. framed-load-more (table-more n r) h l m (originOf o)))
+fitting-more (unload-more {s = s}) (table-more n r) =
+    with-more (find-more s r) λ d e h. rw (← removed-more s r) (more (equal _) (table-more n (remaining-more s r)))
+fitting-more (question-more {s = s} {f = f} {o = o}) (table-more n r) =
+    unless-more BadOrigin _ (unless-more NoSuchFeature _ (with-more (find-more s r) λ d e h. question-said-more (table-more n r) h f (originOf o)))
+fitting-more (enabled-more {s = s}) (table-more n r) = with-more (find-more s r) λ d e h. enabled-said-more (table-more n r) h
+fitting-more (listing-more {s = s} {run = run}) (table-more n {ds = ds} r) =
+    with-more (find-more s r) λ d e h. rw (← beneath-more s r) (unless-more Small _ (more (equal _) (table-more n r)))
+fitting-more (forecast-more {c = c} m) (table-more n r) =
+    src-more m (with-more (find-more c r) λ d e h. forecast-said-more (table-more n r) h m)
 
-step-more : {c d : Call} {t u : Table} → CallMore c d → TableMore t u → OutcomeMore (step c t) (step d u)
-unfolding step
-step-more l r = rw (l .same-fit) (need-more TooLong _ (body-more (l .shape) r))
+outcome-more : {c d : Call} {t u : Table} → CallMore c d → TableMore t u → OutcomeMore (outcome c t) (outcome d u)
+unfolding outcome
+outcome-more l r = rw (l .same-fit) (unless-more TooLong _ (fitting-more (l .shape) r))
 
-said-more : {x y : Outcome} → OutcomeMore x y → Keeps (saidIn x) (saidIn y)
-said-more (alike n) = equal (refused n)
-said-more (more a t) = a
+answer-more : {x y : Outcome} → OutcomeMore x y → Keeps (answerIn x) (answerIn y)
+answer-more (alike n) = equal (refused n)
+answer-more (more a t) = a
 
-left-more : {x y : Outcome} {t u : Table} → OutcomeMore x y → TableMore t u → TableMore (leftIn x t) (leftIn y u)
+left-more : {x y : Outcome} {t u : Table} → OutcomeMore x y → TableMore t u → TableMore (tableIn x t) (tableIn y u)
 left-more (alike n) r = r
 left-more (more a t) r = t
 
-call-answer : {c d : Call} {t u : Table} → CallMore c d → TableMore t u → Keeps (say c t) (say d u)
-unfolding say
-call-answer l r = said-more (step-more l r)
+call-answer : {c d : Call} {t u : Table} → CallMore c d → TableMore t u → Keeps (answerTo c t) (answerTo d u)
+unfolding answerTo
+call-answer l r = answer-more (outcome-more l r)
 
-call-table : {c d : Call} {t u : Table} → CallMore c d → TableMore t u → TableMore (go c t) (go d u)
-unfolding go
-call-table l r = left-more (step-more l r) r
+call-table : {c d : Call} {t u : Table} → CallMore c d → TableMore t u → TableMore (tableLeft c t) (tableLeft d u)
+unfolding tableLeft
+call-table l r = left-more (outcome-more l r) r
 
 -- calls that say as much keep tables that have as much, and what was Enabled
-pub more-follows : Follow say go say go CallMore TableMore Keeps
+pub more-follows : Follow answerTo tableLeft answerTo tableLeft CallMore TableMore Keeps
 more-follows = record { answer = call-answer; table = call-table }
 
 -- ---- the claim
 
 -- an accepted call fits
-fit : (b : Bool) (k : Outcome) → isAccepted (saidIn (need TooLong b k)) ≡ true → b ≡ true
-unfolding need
+fit : (b : Bool) (k : Outcome) → isAccepted (answerIn (refuseUnless TooLong b k)) ≡ true → b ≡ true
+unfolding refuseUnless
 fit true k e = refl
 fit false k e = clash cc
 
-accepted-fits : (c : Call) (t : Table) → isAccepted (say c t) ≡ true → fits c ≡ true
-unfolding say step
-accepted-fits c t e = fit (fits c) (body c t) e
+accepted-fits : (c : Call) (t : Table) → isAccepted (answerTo c t) ≡ true → textsFit c ≡ true
+unfolding answerTo outcome
+accepted-fits c t e = fit (textsFit c) (fittingOutcome c t) e
 
 self-each : (cs : List Call) → Each CallMore cs cs
 self-each [] = no-more
 self-each (c ∷ cs) = each (call-self c) (self-each cs)
 
-one-more : (before : List Call) {c d : Call} (behind : List Call) → CallMore c d → Each CallMore (before ++ (c ∷ behind)) (before ++ (d ∷ behind))
-one-more [] behind m = each m (self-each behind)
-one-more (b ∷ before) behind m = each (call-self b) (one-more before behind m)
+more-at : (before : List Call) {c d : Call} (behind : List Call) → CallMore c d → Each CallMore (before ++ (c ∷ behind)) (before ++ (d ∷ behind))
+more-at [] behind m = each m (self-each behind)
+more-at (b ∷ before) behind m = each (call-self b) (more-at before behind m)
 
 -- "More never takes away": two lists of calls on a new table, alike but in one call, which is accepted in both and has one item or one word more in the second
-pub more-never-takes-away : (before : List Call) (c d : Call) (behind : List Call) → Richer c d →
-    isAccepted (say c (after before)) ≡ true → isAccepted (say d (after before)) ≡ true →
+pub more-never-takes-away : (before : List Call) (c d : Call) (behind : List Call) → OneMore c d →
+    isAccepted (answerTo c (tableAfter before)) ≡ true → isAccepted (answerTo d (tableAfter before)) ≡ true →
     Each Keeps (answers (before ++ (c ∷ behind))) (answers (before ++ (d ∷ behind)))
 unfolding answers
 more-never-takes-away before c d behind r p q =
-    two-runs more-follows (one-more before behind (record { same-fit = accepted-fits c (after before) p ∙ sym (accepted-fits d (after before) q); shape = richer-shape r })) (table-more 1 none-more)
+    two-runs more-follows (more-at before behind (record { same-fit = accepted-fits c (tableAfter before) p ∙ sym (accepted-fits d (tableAfter before) q); shape = one-more-shape r })) (table-more 1 none-more)

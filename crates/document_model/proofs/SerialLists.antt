@@ -8,31 +8,31 @@ use lib.Dec.{T, eqb}
 use lib.ListN.{length}
 use Rattle.ascii.proofs.Clash.{clash}
 use Rattle.ascii.specs.Bytes.{pick}
-use Rattle.document_model.specs.Model.{Who, Document, Table, Call, elem, goes, under, gone, kept, after}
+use Rattle.document_model.specs.Model.{Identity, Document, Table, Call, elem, isAtOrBeneath, serialsBeneath, removedCount, remaining, tableAfter}
 use Rattle.document_model.specs.History.{Event, LoadedIn, BeneathIn, history, Member, first, later, Ascending, Exactly, AreLoaded, AreBeneath}
 use Rattle.document_model.proofs.Tables.{In, here, there, Rising, is-true}
-use Rattle.document_model.proofs.Down.{Inv, reachable}
-use Rattle.document_model.proofs.Told.{Held, held}
+use Rattle.document_model.proofs.Invariant.{Invariant, reachable}
+use Rattle.document_model.proofs.Agreement.{Agrees, agrees}
 
 -- the serials of the documents that pass a test
-unfoldable pub serialsWhere : (Who → Bool) → List Document → List ℕ
+unfoldable pub serialsWhere : (Identity → Bool) → List Document → List ℕ
 serialsWhere p [] = []
-serialsWhere p (d ∷ ds) = pick (p (d .who)) (d .who .serial ∷ serialsWhere p ds) (serialsWhere p ds)
+serialsWhere p (d ∷ ds) = pick (p (d .identity)) (d .identity .serial ∷ serialsWhere p ds) (serialsWhere p ds)
 
-pub under-where : (s : ℕ) (ds : List Document) → under s ds ≡ serialsWhere (λ w. elem s (w .above)) ds
-unfolding under serialsWhere
-under-where s [] = refl
-under-where s (d ∷ ds) = ap (λ (l : List ℕ). pick (elem s (d .who .above)) (d .who .serial ∷ l) l) (under-where s ds)
+pub beneath-where : (s : ℕ) (ds : List Document) → serialsBeneath s ds ≡ serialsWhere (λ w. elem s (w .above)) ds
+unfolding serialsBeneath serialsWhere
+beneath-where s [] = refl
+beneath-where s (d ∷ ds) = ap (λ (l : List ℕ). pick (elem s (d .identity .above)) (d .identity .serial ∷ l) l) (beneath-where s ds)
 
-gone-part : (b : Bool) (n k : ℕ) (l : List ℕ) → k ≡ length l → pick b (suc k) k ≡ length (pick b (n ∷ l) l)
+removed-part : (b : Bool) (n k : ℕ) (l : List ℕ) → k ≡ length l → pick b (suc k) k ≡ length (pick b (n ∷ l) l)
 unfolding pick
-gone-part true n k l e = ap suc e
-gone-part false n k l e = e
+removed-part true n k l e = ap suc e
+removed-part false n k l e = e
 
-pub gone-where : (s : ℕ) (ds : List Document) → gone s ds ≡ length (serialsWhere (goes s) ds)
-unfolding gone serialsWhere
-gone-where s [] = refl
-gone-where s (d ∷ ds) = gone-part (goes s (d .who)) (d .who .serial) (gone s ds) (serialsWhere (goes s) ds) (gone-where s ds)
+pub removed-where : (s : ℕ) (ds : List Document) → removedCount s ds ≡ length (serialsWhere (isAtOrBeneath s) ds)
+unfolding removedCount serialsWhere
+removed-where s [] = refl
+removed-where s (d ∷ ds) = removed-part (isAtOrBeneath s (d .identity)) (d .identity .serial) (removedCount s ds) (serialsWhere (isAtOrBeneath s) ds) (removed-where s ds)
 
 pub all-where : (ds : List Document) → length (serialsWhere (λ w. true) ds) ≡ length ds
 unfolding serialsWhere pick
@@ -50,10 +50,10 @@ unfolding pick
 asc-pick true lo n l h a = (h, a)
 asc-pick false lo n l h a = asc-weak lo (suc n) l (omega arith) a
 
-pub where-ascends : (p : Who → Bool) (lo : ℕ) (ds : List Document) (hi : ℕ) → Rising lo ds hi → Ascending lo (serialsWhere p ds)
+pub where-ascends : (p : Identity → Bool) (lo : ℕ) (ds : List Document) (hi : ℕ) → Rising lo ds hi → Ascending lo (serialsWhere p ds)
 unfolding serialsWhere
 where-ascends p lo [] hi r = tt
-where-ascends p lo (d ∷ ds) hi r = asc-pick (p (d .who)) lo (d .who .serial) (serialsWhere p ds) (r .0) (where-ascends p (suc (d .who .serial)) ds hi (r .1))
+where-ascends p lo (d ∷ ds) hi r = asc-pick (p (d .identity)) lo (d .identity .serial) (serialsWhere p ds) (r .0) (where-ascends p (suc (d .identity .serial)) ds hi (r .1))
 
 split : {X : Type 0} (n m k : ℕ) (l : List ℕ) → k ≡ n → Member k (m ∷ l) → (n ≡ m → X) → (Member n l → X) → X
 split n m k l e first f g = f (sym e)
@@ -63,40 +63,40 @@ asc-low : (lo n : ℕ) (l : List ℕ) → Ascending lo l → Member n l → lo �
 asc-low lo n [] a k = elim k [ ]
 asc-low lo n (m ∷ l) a k = split n m n l refl k (λ e. omega (arith, a .0)) (λ i. omega (arith, a .0, asc-low (suc m) n l (a .1) i))
 
-pub where-ascends-low : (p : Who → Bool) (ds : List Document) (hi : ℕ) → Rising 1 ds hi → Ascending 0 (serialsWhere p ds)
+pub where-ascends-low : (p : Identity → Bool) (ds : List Document) (hi : ℕ) → Rising 1 ds hi → Ascending 0 (serialsWhere p ds)
 where-ascends-low p ds hi r = asc-weak 0 1 (serialsWhere p ds) (omega arith) (where-ascends p 1 ds hi r)
 
 -- ---- members
 
-pub record From (p : Who → Bool) (ds : List Document) (n : ℕ) : Type 0 where
+pub record From (p : Identity → Bool) (ds : List Document) (n : ℕ) : Type 0 where
   pub doc : Document
   pub is-in : In doc ds
-  pub is : doc .who .serial ≡ n
-  pub passes : p (doc .who) ≡ true
+  pub is : doc .identity .serial ≡ n
+  pub passes : p (doc .identity) ≡ true
 
-deeper : {p : Who → Bool} {d : Document} {ds : List Document} {n : ℕ} → From p ds n → From p (d ∷ ds) n
+deeper : {p : Identity → Bool} {d : Document} {ds : List Document} {n : ℕ} → From p ds n → From p (d ∷ ds) n
 deeper f = record { doc = f .doc; is-in = there (f .is-in); is = f .is; passes = f .passes }
 
-from-split : (p : Who → Bool) (d : Document) (ds : List Document) (n : ℕ) (b : Bool) → p (d .who) ≡ b → (Member n (serialsWhere p ds) → From p ds n) → (k m : ℕ) → k ≡ d .who .serial → m ≡ n → Member m (pick b (k ∷ serialsWhere p ds) (serialsWhere p ds)) → From p (d ∷ ds) n
+from-split : (p : Identity → Bool) (d : Document) (ds : List Document) (n : ℕ) (b : Bool) → p (d .identity) ≡ b → (Member n (serialsWhere p ds) → From p ds n) → (k m : ℕ) → k ≡ d .identity .serial → m ≡ n → Member m (pick b (k ∷ serialsWhere p ds) (serialsWhere p ds)) → From p (d ∷ ds) n
 unfolding pick
 from-split p d ds n true e h k m q z first = record { doc = d; is-in = here; is = sym q ∙ z; passes = e }
 from-split p d ds n true e h k m q z (later i) = deeper (h (rw z at i))
 from-split p d ds n false e h k m q z i = deeper (h (rw z at i))
 
-pub where-sound : (p : Who → Bool) (ds : List Document) (n : ℕ) → Member n (serialsWhere p ds) → From p ds n
+pub where-sound : (p : Identity → Bool) (ds : List Document) (n : ℕ) → Member n (serialsWhere p ds) → From p ds n
 unfolding serialsWhere
 where-sound p [] n m = elim m [ ]
-where-sound p (d ∷ ds) n m = from-split p d ds n (p (d .who)) refl (where-sound p ds n) (d .who .serial) n refl refl m
+where-sound p (d ∷ ds) n m = from-split p d ds n (p (d .identity)) refl (where-sound p ds n) (d .identity .serial) n refl refl m
 
 pick-later : (b : Bool) (n k : ℕ) (l : List ℕ) → Member n l → Member n (pick b (k ∷ l) l)
 unfolding pick
 pick-later true n k l m = later m
 pick-later false n k l m = m
 
-pub where-whole : (p : Who → Bool) {x : Document} {ds : List Document} → In x ds → p (x .who) ≡ true → Member (x .who .serial) (serialsWhere p ds)
+pub where-whole : (p : Identity → Bool) {x : Document} {ds : List Document} → In x ds → p (x .identity) ≡ true → Member (x .identity .serial) (serialsWhere p ds)
 unfolding serialsWhere pick
 where-whole p here e = rw e first
-where-whole p {x} (there {y = y} {l = l} m) e = pick-later (p (y .who)) (x .who .serial) (y .who .serial) (serialsWhere p l) (where-whole p m e)
+where-whole p {x} (there {y = y} {l = l} m) e = pick-later (p (y .identity)) (x .identity .serial) (y .identity .serial) (serialsWhere p l) (where-whole p m e)
 
 -- ---- an ascending list is known by its members
 
@@ -124,24 +124,24 @@ exactly-one P l m e f = asc-same 0 l m (e .ascends) (f .ascends) (λ n i. f .who
 
 -- ---- what is loaded, and what is beneath
 
-pub loaded-list : (cs : List Call) → AreLoaded (history cs) (serialsWhere (λ w. true) (after cs .docs))
+pub loaded-list : (cs : List Call) → AreLoaded (history cs) (serialsWhere (λ w. true) (tableAfter cs .docs))
 loaded-list cs =
-    let h = held (cs) in
+    let h = agrees (cs) in
     let i = reachable cs in
     record {
-      ascends = asc-weak 0 1 (serialsWhere (λ w. true) (after cs .docs)) (omega arith) (where-ascends (λ w. true) 1 (after cs .docs) (after cs .next) (i .rising));
-      sound = λ n m. let f = where-sound (λ w. true) (after cs .docs) n m in rw (f .is) at (h .told (f .doc) (f .is-in));
+      ascends = asc-weak 0 1 (serialsWhere (λ w. true) (tableAfter cs .docs)) (omega arith) (where-ascends (λ w. true) 1 (tableAfter cs .docs) (tableAfter cs .next) (i .rising));
+      sound = λ n m. let f = where-sound (λ w. true) (tableAfter cs .docs) n m in rw (f .is) at (h .told (f .doc) (f .is-in));
       whole = λ n l. let w = h .is-there n l in rw (w .2) at (where-whole (λ w′. true) (w .1) refl);
     }
 
-pub beneath-list : (cs : List Call) (s : ℕ) → AreBeneath (history cs) s (under s (after cs .docs))
+pub beneath-list : (cs : List Call) (s : ℕ) → AreBeneath (history cs) s (serialsBeneath s (tableAfter cs .docs))
 beneath-list cs s =
-    let h = held (cs) in
+    let h = agrees (cs) in
     let i = reachable cs in
-    let p : Who → Bool = λ w. elem s (w .above) in
-    rw (under-where s (after cs .docs)) (record {
-      ascends = asc-weak 0 1 (serialsWhere p (after cs .docs)) (omega arith) (where-ascends p 1 (after cs .docs) (after cs .next) (i .rising));
-      sound = λ n m. let f = where-sound p (after cs .docs) n m in
+    let p : Identity → Bool = λ w. elem s (w .above) in
+    rw (beneath-where s (tableAfter cs .docs)) (record {
+      ascends = asc-weak 0 1 (serialsWhere p (tableAfter cs .docs)) (omega arith) (where-ascends p 1 (tableAfter cs .docs) (tableAfter cs .next) (i .rising));
+      sound = λ n m. let f = where-sound p (tableAfter cs .docs) n m in
           (rw (f .is) at (h .told (f .doc) (f .is-in)), rw (f .is) at (h .chained (f .doc) (f .is-in) s (rw (f .passes) tt)));
-      whole = λ n l. let w = h .is-there n (l .0) in rw (w .2) at (where-whole p (w .1) (is-true (elem s (w .0 .who .above)) (h .chain (w .0) (w .1) s (rw (w .2) (l .1)))));
+      whole = λ n l. let w = h .is-there n (l .0) in rw (w .2) at (where-whole p (w .1) (is-true (elem s (w .0 .identity .above)) (h .chain (w .0) (w .1) s (rw (w .2) (l .1)))));
     })
