@@ -27,13 +27,22 @@ use Rattle.decisions.specs.Decisions.{Decision}
 use Rattle.decisions.specs.Decisions.Decision.{disabled, enabled}
 use Rattle.decisions.specs.Masks.{maskOf, decisionAt}
 use Rattle.decisions.specs.Policies.{Policy, Frame, valueIn, questionIn, inheritedIn, enabledMask, forecast}
-use Rattle.decisions.proofs.Laws.{inherited-as-fresh, mask-back, mask-below, enabled-at, enabled-undeclared, forecast-is}
+use Rattle.decisions.proofs.Laws.{inherited-as-fresh, mask-back, mask-below, enabled-at, enabled-past, enabled-undeclared, forecast-is}
 use Rattle.document_model.specs.Runs.{leftBy}
 use Rattle.document_model.specs.Model.{Text, isGoodOrigin, isNull, arrivesAt, askedAt, Identity, Document, valuesFrom, declaredBy, policyOf, frameSandboxed, frameDeclared, frameOf, orFresh, Table, newTable, find, Call, framedLoad, question, enabledFeatures, forecastOf, Answer, refused, loaded, decision, features, Outcome, refuse, accept, refuseUnless, withDocument, textsFit, load, framedIdentity, framedDocument, fittingOutcome, outcome, answerIn, tableIn, answerTo, tableLeft, tableAfter}
 use Rattle.document_model.specs.Claims.{isAccepted, AtDeclared, as-src, as-null}
 use Rattle.document_model.proofs.Tables.{In, in-last, is-true, find-some, in-find}
 use Rattle.document_model.proofs.TwoRuns.{left-append}
 use Rattle.document_model.proofs.Invariant.{Invariant, reachable, call-next, good-not, empty-good}
+
+-- `AtDeclared` on a table
+pub data DeclaredText (t : Table) (c : ℕ) (a : Attributes) : Text → Type 0 where
+  src-text : DeclaredText t c a (a .src)
+  null-text : answerTo (framedLoad c [] (a .src) a) t ≡ refused Sandbox → DeclaredText t c a nullText
+
+declared-text : {cs : List Call} {c : ℕ} {a : Attributes} {o : Text} → AtDeclared cs c a o → DeclaredText (tableAfter cs) c a o
+declared-text as-src = src-text
+declared-text (as-null e) = null-text e
 
 -- the arriving origin is the declared one; or that is fresh and an opaque origin of its own arrives
 data Meets (own : Origin) : Origin → Origin → Type 0 where
@@ -152,22 +161,22 @@ free-cases true saysNull e X f g = g refl refl
 free-cases true (saysTuple o) e X f g = clash cc
 free-cases true noOrigin e X f g = clash cc
 
-arrives-meets : (t : Table) → Invariant t → (c : ℕ) (h o : Text) (a : Attributes) (w : AcceptedFramed t c h o a) → AtDeclared t c a o → Meets (w .doc .identity .origin) (frameDeclared (w .doc .identity) a) (arrivesAt (originOf o) (w .doc .identity .origin) (t .next))
+arrives-meets : (t : Table) → Invariant t → (c : ℕ) (h o : Text) (a : Attributes) (w : AcceptedFramed t c h o a) → DeclaredText t c a o → Meets (w .doc .identity .origin) (frameDeclared (w .doc .identity) a) (arrivesAt (originOf o) (w .doc .identity .origin) (t .next))
 unfolding frameDeclared frameSandboxed
-arrives-meets t i c h o a w as-src =
+arrives-meets t i c h o a w src-text =
     let d = w .doc in
     let far : sameOrigin (d .identity .origin) (opaque (t .next)) ≡ false = i .apart d (find-some c (t .docs) d (w .is) .0) (t .next) (omega arith) in
     free-cases (isSandboxed (d .identity .sandboxed) a) (originOf (a .src)) (w .free) (Meets (d .identity .origin) (orFresh (declaredOrigin (d .identity .sandboxed) a (d .identity .origin))) (arrivesAt (originOf (a .src)) (d .identity .origin) (t .next)))
     (λ e. src-meets (d .identity .sandboxed) a (d .identity .origin) (t .next) (w .good-src) far e)
     (λ e z. subst (λ (said : OriginSaid). Meets (d .identity .origin) (orFresh (declaredOrigin (d .identity .sandboxed) a (d .identity .origin))) (arrivesAt said (d .identity .origin) (t .next))) (sym z)
     (sandboxed-meets (d .identity .sandboxed) a (d .identity .origin) (t .next) (w .good-src) far e))
-arrives-meets t i c h o a w (as-null e) =
+arrives-meets t i c h o a w (null-text e) =
     let d = w .doc in
     let far : sameOrigin (d .identity .origin) (opaque (t .next)) ≡ false = i .apart d (find-some c (t .docs) d (w .is) .0) (t .next) (omega arith) in
     subst (λ (said : OriginSaid). Meets (d .identity .origin) (orFresh (declaredOrigin (d .identity .sandboxed) a (d .identity .origin))) (arrivesAt said (d .identity .origin) (t .next))) (sym text-null)
     (sandboxed-meets (d .identity .sandboxed) a (d .identity .origin) (t .next) (w .good-src) far (refused-sandboxed t c [] (a .src) a d (w .is) e))
 
-pub inherits-forecast : (t : Table) → Invariant t → (c : ℕ) (h o : Text) (a : Attributes) (w : AcceptedFramed t c h o a) → AtDeclared t c a o →
+pub inherits-forecast : (t : Table) → Invariant t → (c : ℕ) (h o : Text) (a : Attributes) (w : AcceptedFramed t c h o a) → DeclaredText t c a o →
     framedDocument (w .doc) h a (framedIdentity (w .doc .identity) a (originOf o) (t .next)) .inherited ≡ forecast (policyOf (w .doc)) (frameOf (w .doc .identity) a)
 unfolding framedDocument framedIdentity
 inherits-forecast t i c h o a w at =
@@ -239,7 +248,7 @@ framed-small : (d : Document) (h : Text) (a : Attributes) (w : Identity) → fra
 unfolding framedDocument
 framed-small d h a w = mask-below (inheritedIn (policyOf d) (frameOf (d .identity) a) (w .origin))
 
-arrived : (t : Table) → Invariant t → (c : ℕ) (h o : Text) (a : Attributes) (m s : ℕ) (bad : Bool) → answerTo (forecastOf c a) t ≡ features m → AtDeclared t c a o → answerTo (framedLoad c h o a) t ≡ loaded s bad → Arrived (tableLeft (framedLoad c h o a) t) h s m
+arrived : (t : Table) → Invariant t → (c : ℕ) (h o : Text) (a : Attributes) (m s : ℕ) (bad : Bool) → answerTo (forecastOf c a) t ≡ features m → DeclaredText t c a o → answerTo (framedLoad c h o a) t ≡ loaded s bad → Arrived (tableLeft (framedLoad c h o a) t) h s m
 arrived t i c h o a m s bad e at l =
     let w = accepted-framed t c h o a (rw l refl) in
     let x : Document = framedDocument (w .doc) h a (framedIdentity (w .doc .identity) a (originOf o) (t .next)) in
@@ -263,7 +272,7 @@ arrived t i c h o a m s bad e at l =
 -- at the declared origin, that is accepted has exactly the forecast's features enabled
 pub forecast-comes-true : (cs : List Call) (c : ℕ) (o : Text) (a : Attributes) (m s : ℕ) (bad : Bool) →
     answerTo (forecastOf c a) (tableAfter cs) ≡ features m →
-    AtDeclared (tableAfter cs) c a o →
+    AtDeclared cs c a o →
     answerTo (framedLoad c [] o a) (tableAfter (cs ++ (forecastOf c a ∷ []))) ≡ loaded s bad →
     answerTo (enabledFeatures s) (tableAfter (cs ++ (forecastOf c a ∷ framedLoad c [] o a ∷ []))) ≡ features m
 unfolding leftBy
@@ -272,7 +281,7 @@ forecast-comes-true cs c o a m s bad e at l =
     let same : tableLeft (forecastOf c a) t ≡ t = forecast-keeps t c a m e in
     let first : tableAfter (cs ++ (forecastOf c a ∷ [])) ≡ t = after-more cs (forecastOf c a ∷ []) ∙ same in
     let both : tableAfter (cs ++ (forecastOf c a ∷ framedLoad c [] o a ∷ [])) ≡ tableLeft (framedLoad c [] o a) t = after-more cs (forecastOf c a ∷ framedLoad c [] o a ∷ []) ∙ ap (tableLeft (framedLoad c [] o a)) same in
-    let w = arrived t (reachable cs) c [] o a m s bad e at (rw first at l) in
+    let w = arrived t (reachable cs) c [] o a m s bad e (declared-text at) (rw first at l) in
     rw both (answers-enabled (tableLeft (framedLoad c [] o a) t) s (w .doc) (w .is) ∙ ap features (empty-enabled (w .doc) (w .declares) (w .equals-itself) (w .small) ∙ w .inherits))
 
 -- an accepted number of enabled features
@@ -295,3 +304,9 @@ bit-answers cs s m n e l =
     let w = enabled-in (tableAfter cs) s m e in
     own-question (tableAfter cs) s n (w .0) (is-true (ltb n featureCount) (lt→ltb n featureCount l)) (w .1)
     ∙ ap decision (sym (enabled-at (policyOf (w .0)) n l) ∙ ap (λ (k : ℕ). decisionAt k n) (sym (w .2)))
+
+-- and no other bit is set
+pub no-other-bit : (cs : List Call) (s m n : ℕ) → answerTo (enabledFeatures s) (tableAfter cs) ≡ features m → featureCount ≤ n → decisionAt m n ≡ disabled
+no-other-bit cs s m n e l =
+    let w = enabled-in (tableAfter cs) s m e in
+    ap (λ (k : ℕ). decisionAt k n) (w .2) ∙ enabled-past (policyOf (w .0)) n l

@@ -12,8 +12,9 @@ use Rattle.limits.specs.declared.Refusal.{Refusal}
 use Rattle.limits.specs.declared.Refusal.the-variants.{Small}
 use Rattle.document_model.specs.Runs.{leftBy, answersBy}
 use Rattle.containers.specs.Attributes.{Attributes}
-use Rattle.document_model.specs.Model.{Text, Identity, Document, valuesFrom, Table, newTable, isAtOrBeneath, find, remaining, serialsBeneath, removedCount, Call, topLoad, framedLoad, unload, listing, Answer, refused, loaded, removed, decision, features, serials, Outcome, refuse, accept, refuseUnless, withDocument, textsFit, stored, fittingOutcome, outcome, answerIn, tableIn, answerTo, tableLeft, tableAfter, answers}
-use Rattle.document_model.specs.History.{Event, LoadedIn, BeneathIn, history, Member, Exactly, AreLoaded, AreBeneath, given, Listed, acceptedLoads, unloadSum, Unloaded, unloaded, acceptedLoad}
+use Rattle.document_model.specs.Model.{Text, Identity, Document, valuesFrom, Table, newTable, isAtOrBeneath, find, remaining, serialsBeneath, removedCount, Call, topLoad, framedLoad, unload, listing, Answer, refused, loaded, removed, decision, features, serials, Outcome, refuse, accept, refuseUnless, withDocument, textsFit, stored, fittingOutcome, outcome, answerIn, tableIn, answerTo, tableLeft, tableAfter, answers, answersAfter}
+use Rattle.document_model.specs.History.{Event, LoadedIn, BeneathIn, history, Member, Exactly, AreLoaded, AreBeneath, given, acceptedLoads, unloadSum, Unloaded, unloaded, acceptedLoad}
+use Rattle.document_model.specs.Claims.{Listed}
 use Rattle.document_model.proofs.Tables.{In, in-remaining, remaining-in, rising-one}
 use Rattle.document_model.proofs.TwoRuns.{left-append}
 use Rattle.document_model.proofs.Invariant.{Invariant, reachable}
@@ -32,7 +33,7 @@ effect-same t u c a n e (frame-loaded k h o b m d i q p z) = clash cc
 effect-same t u c a n e (all-removed s) = clash cc
 
 pub refused-changes-nothing : (cs : List Call) (c : Call) (n : Refusal) (ds : List Call) → answerTo c (tableAfter cs) ≡ refused n →
-    (tableAfter (cs ++ (c ∷ ds)) ≡ tableAfter (cs ++ ds)) × (answersBy answerTo tableLeft ds (tableAfter (cs ++ (c ∷ []))) ≡ answersBy answerTo tableLeft ds (tableAfter cs))
+    (tableAfter (cs ++ (c ∷ ds)) ≡ tableAfter (cs ++ ds)) × (answersAfter (cs ++ (c ∷ [])) ds ≡ answersAfter cs ds)
 unfolding leftBy
 refused-changes-nothing cs c n ds e =
     let same : tableLeft c (tableAfter cs) ≡ tableAfter cs = effect-same (tableAfter cs) (tableLeft c (tableAfter cs)) c (answerTo c (tableAfter cs)) n e (effect c (tableAfter cs)) in (
@@ -84,7 +85,7 @@ listed-of : (t : Table) (s n : ℕ) (run r : List ℕ) (o : Option Document) (b 
 unfolding withDocument refuseUnless stored
 listed-of t s n run r none b e = clash cc
 listed-of t s n run r (some d) false e = clash cc
-listed-of t s n run r (some d) true e = record { count = cc; after-it = cc }
+listed-of t s n run r (some d) true e = record { count = cc; run-afterwards = cc }
 
 listing-is : (t : Table) (s n : ℕ) (run r : List ℕ) → answerTo (listing s run) t ≡ serials n r → Listed n r run (serialsBeneath s (t .docs))
 unfolding answerTo outcome fittingOutcome textsFit
