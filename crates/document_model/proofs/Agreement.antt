@@ -14,9 +14,10 @@ use Rattle.document_model.specs.Runs.{leftBy}
 use Rattle.containers.specs.Attributes.{Attributes}
 use Rattle.document_model.specs.Model.{Text, Identity, Document, Table, newTable, elem, isAtOrBeneath, find, remaining, serialsBeneath, removedCount, Call, topLoad, framedLoad, unload, question, enabledFeatures, listing, forecastOf, Answer, refused, loaded, removed, Outcome, refuse, accept, refuseUnless, withDocument, textsFit, load, topIdentity, framedIdentity, topDocument, framedDocument, fittingOutcome, outcome, answerIn, tableIn, answerTo, tableLeft, tableAfter}
 use Rattle.document_model.specs.History.{Event, Gave, gave-top, gave-framed, Framed, framed-by, Unloaded, unloaded, Happened, last, earlier, BeneathIn, directly, through, LoadedIn, now, still, eventsFrom, history}
-use Rattle.document_model.proofs.Tables.{In, here, there, in-left, in-last, in-push, in-remaining, remaining-in, Rising, rising-below, Finds, missing, hit, finds, is-false, is-true}
+use Rattle.document_model.proofs.Booleans.{or-cases, or-first, or-no, or-second}
+use Rattle.document_model.proofs.Tables.{In, here, there, in-left, in-last, in-push, in-remaining, remaining-in, Rising, rising-below, Finds, missing, hit, finds}
 use Rattle.document_model.proofs.Effects.{pushed, Effect, nothing-else, top-loaded, frame-loaded, all-removed, effect}
-use Rattle.document_model.proofs.Invariant.{Invariant, or-cases, call-next, new-invariant}
+use Rattle.document_model.proofs.Invariant.{Invariant, call-next, new-invariant}
 
 pub framed-gave : {c : Call} {a : Answer} {s k : ℕ} → Framed c a s k → Gave c a s
 framed-gave framed-by = gave-framed
@@ -50,18 +51,6 @@ shrink-new n q o (directly last f) l = absurd (omega (arith, q _ _ f))
 shrink-new n q o (directly (earlier h) f) l = directly h f
 shrink-new n q o (through last f b) l = absurd (omega (arith, q _ _ f))
 shrink-new n q o (through (earlier h) f b) l = through h f (shrink-new n q o b (omega (arith, o _ _ _ _ h f)))
-
-or-first : (a b : Bool) → T a → T (a || b)
-or-first true b t = tt
-or-first false b t = absurd t
-
-or-second : (a b : Bool) → T b → T (a || b)
-or-second true b t = tt
-or-second false b t = t
-
-or-no : (a b : Bool) → (T a → ⊥) → (T b → ⊥) → a || b ≡ false
-or-no true b f g = absurd (f tt)
-or-no false b f g = is-false b g
 
 -- a call that gives nothing and unloads nothing
 quiet : {es : List Event} {t : Table} (c : Call) (a : Answer) → ((s : ℕ) → Gave c a s → ⊥) → ((s : ℕ) → Unloaded c a s → ⊥) → Agrees es t → Agrees (record { call = c; answer = a } ∷ es) t

@@ -31,9 +31,11 @@ use Rattle.decisions.proofs.Laws.{inherited-as-fresh, mask-back, mask-below, en
 use Rattle.document_model.specs.Runs.{leftBy}
 use Rattle.document_model.specs.Model.{Text, isGoodOrigin, isNull, arrivesAt, askedAt, Identity, Document, valuesFrom, declaredBy, policyOf, frameSandboxed, frameDeclared, frameOf, orFresh, Table, newTable, find, Call, framedLoad, question, enabledFeatures, forecastOf, Answer, refused, loaded, decision, features, Outcome, refuse, accept, refuseUnless, withDocument, textsFit, load, framedIdentity, framedDocument, fittingOutcome, outcome, answerIn, tableIn, answerTo, tableLeft, tableAfter}
 use Rattle.document_model.specs.Claims.{isAccepted, AtDeclared, as-src, as-null}
-use Rattle.document_model.proofs.Tables.{In, in-last, is-true, find-some, in-find}
+use Rattle.document_model.proofs.Booleans.{is-true, not-either}
+use Rattle.document_model.proofs.OriginTexts.{good-not}
+use Rattle.document_model.proofs.Tables.{In, in-last, find-some, in-find}
 use Rattle.document_model.proofs.TwoRuns.{left-append}
-use Rattle.document_model.proofs.Invariant.{Invariant, reachable, call-next, good-not, empty-good}
+use Rattle.document_model.proofs.Invariant.{Invariant, reachable, call-next}
 
 -- `AtDeclared` on a table
 pub data DeclaredText (t : Table) (c : ℕ) (a : Attributes) : Text → Type 0 where
@@ -143,15 +145,11 @@ load-free t b make identity e =
     let q = unless-other Spent Sandbox _ _ (λ z. clash cc) (unless-other Full Sandbox _ _ (λ z. clash cc) e) in
     clash cc
 
-or-not : (b c : Bool) → not b || c ≡ false → b ≡ true
-or-not true c e = refl
-or-not false c e = clash cc
-
 refused-sandboxed : (t : Table) (c : ℕ) (h o : Text) (a : Attributes) (d : Document) → find c (t .docs) ≡ some d → answerTo (framedLoad c h o a) t ≡ refused Sandbox → frameSandboxed (d .identity) a ≡ true
 unfolding answerTo outcome fittingOutcome withDocument
 refused-sandboxed t c h o a d p e =
     let q = unless-other BadOrigin Sandbox _ _ (λ z. clash cc) (unless-other BadOrigin Sandbox _ _ (λ z. clash cc) (unless-other TooLong Sandbox _ _ (λ z. clash cc) e)) in
-    or-not (frameSandboxed (d .identity) a) (isNull (originOf o)) (unless-this Sandbox _ _ (load-free t _ _ _) (rw p at q))
+    not-either (frameSandboxed (d .identity) a) (isNull (originOf o)) (unless-this Sandbox _ _ (load-free t _ _ _) (rw p at q)) .0
 
 -- the number that a document inherits in a frame whose declared origin it arrives at is the forecast
 free-cases : (b : Bool) (said : OriginSaid) → not b || isNull said ≡ true → (X : Type 0) → (b ≡ false → X) → (b ≡ true → said ≡ saysNull → X) → X

@@ -26,6 +26,8 @@ use Rattle.decisions.proofs.Laws.{question-below, disabled-question, mask-disab
 use Rattle.document_model.specs.Runs.{leftBy}
 use Rattle.containers.specs.Attributes.{Attributes}
 use Rattle.document_model.specs.Model.{Text, isGoodOrigin, isNull, isGoodAtTop, arrivesAt, askedAt, Identity, Document, policyOf, frameSandboxed, frameOf, Table, newTable, elem, isAtOrBeneath, find, remaining, serialsBeneath, removedCount, Call, topLoad, framedLoad, unload, question, enabledFeatures, listing, forecastOf, Answer, refused, decision, Outcome, refuse, accept, refuseUnless, withDocument, textsFit, load, topIdentity, framedIdentity, topDocument, framedDocument, fittingOutcome, outcome, answerIn, tableIn, answerTo, tableLeft, tableAfter}
+use Rattle.document_model.proofs.Booleans.{or-cases}
+use Rattle.document_model.proofs.OriginTexts.{arrives-apart, arrives-itself, empty-good, other-opaque}
 use Rattle.document_model.proofs.TwoRuns.{left-append}
 use Rattle.document_model.proofs.Effects.{pushed, Effect, nothing-else, top-loaded, frame-loaded, all-removed, effect}
 use Rattle.document_model.proofs.Tables.{In, here, there, in-left, in-push, in-remaining, remaining-in, Rising, rising-push, rising-remaining, rising-below, rising-one, Finds, missing, hit, finds, find-some, in-find, count, container-stays}
@@ -111,29 +113,9 @@ unload-next t i s = record {
   later = record { grows = omega arith; old = λ x m h. in-remaining s (t .docs) x m .was };
 }
 
-arrives-real : (said : OriginSaid) (o : Origin) (n : ℕ) → sameOrigin o o ≡ true → sameOrigin (arrivesAt said o n) (arrivesAt said o n) ≡ true
-arrives-real saysEmpty o n h = h
-arrives-real saysNull o n h = opaque-self n
-arrives-real (saysTuple x) o n h = tuple-self x
-arrives-real noOrigin o n h = opaque-self n
-
-other-opaque : (m k : ℕ) (b : Bool) → sameOrigin (opaque m) (opaque k) ≡ b → m < k → b ≡ false
-other-opaque m k true e l = let q : opaque m ≡ opaque k = same-one (opaque m) (opaque k) e in let z : m ≡ k = cc in absurd (omega arith)
-other-opaque m k false e l = refl
-
-tuple-opaque : (x : TupleOrigin) (k : ℕ) (b : Bool) → sameOrigin (tuple x) (opaque k) ≡ b → b ≡ false
-tuple-opaque x k true e = let q : tuple x ≡ opaque k = same-one (tuple x) (opaque k) e in clash cc
-tuple-opaque x k false e = refl
-
-arrives-apart : (said : OriginSaid) (o : Origin) (n : ℕ) → ((k : ℕ) → suc n ≤ k → sameOrigin o (opaque k) ≡ false) → (k : ℕ) → suc n ≤ k → sameOrigin (arrivesAt said o n) (opaque k) ≡ false
-arrives-apart saysEmpty o n h k l = h k l
-arrives-apart saysNull o n h k l = other-opaque n k (sameOrigin (opaque n) (opaque k)) refl l
-arrives-apart (saysTuple x) o n h k l = tuple-opaque x k (sameOrigin (tuple x) (opaque k)) refl
-arrives-apart noOrigin o n h k l = other-opaque n k (sameOrigin (opaque n) (opaque k)) refl l
-
 top-next : (t : Table) → Invariant t → (h : Text) (said : OriginSaid) → length (t .docs) < documentLimit → t .next ≤ lastSerial → Next t (pushed t (topDocument h (topIdentity said (t .next))))
 unfolding topDocument topIdentity
-top-next t i h said p q = push-next t i (topDocument h (topIdentity said (t .next))) refl (at-top refl) (arrives-real said (opaque (t .next)) (t .next) (opaque-self (t .next)))
+top-next t i h said p q = push-next t i (topDocument h (topIdentity said (t .next))) refl (at-top refl) (arrives-itself said (opaque (t .next)) (t .next) (opaque-self (t .next)))
     (arrives-apart said (opaque (t .next)) (t .next) (λ k l. other-opaque (t .next) k (sameOrigin (opaque (t .next)) (opaque k)) refl l)) p q
 
 framed-next : (t : Table) → Invariant t → (h : Text) (a : Attributes) (said : OriginSaid) (d : Document) → In d (t .docs) → length (t .docs) < documentLimit → t .next ≤ lastSerial →
@@ -144,7 +126,7 @@ framed-next t i h a said d m p q =
     (in-frame d m refl (rising-below 1 (t .docs) (t .next) (i .rising) d m)
     (λ f e. mask-disabled (inheritedIn (policyOf d) (frameOf (d .identity) a) (arrivesAt said (d .identity .origin) (t .next))) f
     (question-below (policyOf d) f (frameOf (d .identity) a) (arrivesAt said (d .identity .origin) (t .next)) (i .equals-itself d m) e)))
-    (arrives-real said (d .identity .origin) (t .next) (i .equals-itself d m))
+    (arrives-itself said (d .identity .origin) (t .next) (i .equals-itself d m))
     (arrives-apart said (d .identity .origin) (t .next) (λ k l. i .apart d m k (omega arith))) p q
 
 effect-next : (t u : Table) (c : Call) (a : Answer) → Invariant t → Effect t c a u → Next t u
@@ -177,10 +159,6 @@ unfolding tableAfter
 later-after cs ds = rw (left-append tableLeft cs ds newTable) (calls-next ds (leftBy tableLeft cs newTable) (calls-next cs newTable new-invariant .inv) .later)
 
 -- ---- Disabled flows down
-
-pub or-cases : {X : Type 0} (a b : Bool) → (T a → X) → (T b → X) → T (a || b) → X
-or-cases true b f g t = f t
-or-cases false b f g t = g t
 
 -- a document hands on what it is Disabled for to all that it is above
 pub flows : (t : Table) → Invariant t → (d : Document) → In d (t .docs) → (f : ℕ) → questionIn (policyOf d) f (d .identity .origin) ≡ disabled →
@@ -237,15 +215,6 @@ asked-disabled t s f o g e = disabled-cases t s f (originOf o) (ltb f featureCou
 pub says-disabled : (t : Table) (s f : ℕ) (o : Text) (y : Document) → isGoodOrigin (originOf o) ≡ true → ltb f featureCount ≡ true → find s (t .docs) ≡ some y → decisionAt (y .inherited) f ≡ disabled → answerTo (question s f o) t ≡ decision disabled
 unfolding refuseUnless withDocument answered
 says-disabled t s f o y g p q h = question-is s f o t g ∙ (rw (p, q, disabled-question (policyOf y) f (askedAt (originOf o) (y .identity .origin)) h))
-
-pub good-not : (said : OriginSaid) → isGoodOrigin said ≡ true → said ≡ noOrigin → ⊥
-good-not saysEmpty e z = clash cc
-good-not saysNull e z = clash cc
-good-not (saysTuple o) e z = clash cc
-good-not noOrigin e z = clash cc
-
-pub empty-good : isGoodOrigin (originOf []) ≡ true
-empty-good = rw text-empty
 
 -- after the calls cs the document d is Disabled for f at its own origin: then, after any further calls, each that stands beneath it in the table is at every origin
 pub table-flows-down : (cs ds : List Call) (d f : ℕ) → answerTo (question d f []) (tableAfter cs) ≡ decision disabled →

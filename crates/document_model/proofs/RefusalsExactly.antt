@@ -21,8 +21,10 @@ use Rattle.document_model.specs.Model.{Text, isGoodOrigin, isNull, isGoo
 use Rattle.document_model.specs.History.{Event, LoadedIn, BeneathIn, SandboxedIn, AreLoaded, AreBeneath, acceptedLoads, history}
 use Rattle.document_model.specs.Claims.{isAccepted}
 use Rattle.document_model.specs.Refusals.{Row, inputLong, badOrigin, badSrc, noFeature, notLoaded, sandboxed, full, spent, notDictionary, outputLong, small, place, refusalOf, Input, top-header, framed-header, framed-allow, framed-sandbox, forecast-allow, forecast-sandbox, Names, framed-names, unload-names, question-names, enabled-names, listing-names, forecast-names, IsLoad, is-top, is-framed, Holds, long, top-bad, top-empty, framed-bad, question-bad, framed-src, forecast-src, over-sixteen, closed, in-container, in-attribute, sixteen, all-given, short-run, First}
+use Rattle.document_model.proofs.Booleans.{and-no, not-either, not-or-true}
+use Rattle.document_model.proofs.OriginTexts.{good-not, is-null, not-good, not-null}
 use Rattle.document_model.proofs.Tables.{In, Finds, missing, hit, finds}
-use Rattle.document_model.proofs.Invariant.{Invariant, reachable, good-not}
+use Rattle.document_model.proofs.Invariant.{Invariant, reachable}
 use Rattle.document_model.proofs.Agreement.{Agrees, agrees}
 use Rattle.document_model.proofs.Effects.{Counted, counted}
 use Rattle.document_model.proofs.SerialLists.{serialsWhere, all-where, exactly-one, loaded-list, beneath-list}
@@ -98,10 +100,6 @@ long-text x e = omega (arith, leb-false)
 short-text : (x : Text) → isShort x ≡ true → textBytes < length x → ⊥
 short-text x e l = omega (arith, leb-true)
 
-and-no : {X : Type 0} (a b : Bool) → a && b ≡ false → (a ≡ false → X) → (b ≡ false → X) → X
-and-no true b e f g = g e
-and-no false b e f g = f refl
-
 is-long : (es : List Event) (c : Call) → textsFit c ≡ false → Holds es c inputLong
 unfolding textsFit
 is-long es (topLoad h o) e = long h top-header (long-text h e)
@@ -128,12 +126,6 @@ input-short c x e (forecast-sandbox {a = a}) = and-right (isShort (a .allow)) (i
 not-long : (es : List Event) (c : Call) → textsFit c ≡ true → Holds es c inputLong → ⊥
 not-long es c e (long x i l) = short-text x (input-short c x e i) l
 
-not-good : (said : OriginSaid) → isGoodOrigin said ≡ false → said ≡ noOrigin
-not-good saysEmpty e = clash cc
-not-good saysNull e = clash cc
-not-good (saysTuple o) e = clash cc
-not-good noOrigin e = refl
-
 top-of : (es : List Event) (h o : Text) (said : OriginSaid) → originOf o ≡ said → isGoodAtTop said ≡ false → Holds es (topLoad h o) badOrigin
 top-of es h o saysEmpty z e = top-empty z
 top-of es h o saysNull z e = clash cc
@@ -143,26 +135,6 @@ top-of es h o noOrigin z e = top-bad z
 top-not : (es : List Event) (h o : Text) → isGoodAtTop (originOf o) ≡ true → Holds es (topLoad h o) badOrigin → ⊥
 top-not es h o e (top-bad z) = clash (let y : isGoodAtTop noOrigin ≡ true = rw z at e in cc)
 top-not es h o e (top-empty z) = clash (let y : isGoodAtTop saysEmpty ≡ true = rw z at e in cc)
-
-not-null : (said : OriginSaid) → isNull said ≡ false → said ≡ saysNull → ⊥
-not-null saysEmpty e z = clash cc
-not-null saysNull e z = clash cc
-not-null (saysTuple o) e z = clash cc
-not-null noOrigin e z = clash cc
-
-is-null : (said : OriginSaid) → isNull said ≡ true → said ≡ saysNull
-is-null saysEmpty e = clash cc
-is-null saysNull e = refl
-is-null (saysTuple o) e = clash cc
-is-null noOrigin e = clash cc
-
-not-either : (b n : Bool) → not b || n ≡ false → (b ≡ true) × (n ≡ false)
-not-either true n e = (refl, e)
-not-either false n e = clash cc
-
-not-or-true : (b n : Bool) → not b || n ≡ true → b ≡ true → n ≡ true
-not-or-true true n e z = e
-not-or-true false n e z = clash cc
 
 module _ (cs : List Call) where
   abbrev es : List Event

@@ -11,6 +11,7 @@ use Rattle.containers.proofs.Laws.{sandboxed-is}
 use Rattle.containers.specs.Attributes.{Attributes}
 use Rattle.document_model.specs.Model.{Text, Identity, Document, frameSandboxed, Table, newTable, Call, topLoad, framedLoad, unload, Answer, loaded, removed, topIdentity, framedIdentity, topDocument, framedDocument, tableAfter}
 use Rattle.document_model.specs.History.{Event, Gave, gave-top, gave-framed, Happened, last, earlier, history, SandboxedIn, by-attribute, by-container}
+use Rattle.document_model.proofs.Booleans.{or-either, or-left, or-right}
 use Rattle.document_model.proofs.Tables.{In, in-push, in-remaining}
 use Rattle.document_model.proofs.Effects.{pushed, Effect, nothing-else, top-loaded, frame-loaded, all-removed, history-induction}
 
@@ -31,18 +32,6 @@ less n g older (by-attribute last q) l = absurd (omega (arith, g _ gave-framed))
 less n g older (by-attribute (earlier p) q) l = by-attribute p q
 less n g older (by-container last k) l = absurd (omega (arith, g _ gave-framed))
 less n g older (by-container (earlier p) k) l = by-container p (less n g older k (omega (arith, older _ _ _ _ _ _ p)))
-
-pub or-left : (a b : Bool) → a ≡ true → a || b ≡ true
-or-left true b e = refl
-or-left false b e = clash cc
-
-pub or-right : (a b : Bool) → b ≡ true → a || b ≡ true
-or-right true b e = refl
-or-right false b e = e
-
-pub or-either : {X : Type 0} (a b : Bool) → a || b ≡ true → (a ≡ true → X) → (b ≡ true → X) → X
-or-either true b e f g = f refl
-or-either false b e f g = g e
 
 -- a frame's document is sandboxed by its container or by the attributes
 pub sandboxed-either : {X : Type 0} (w : Identity) (a : Attributes) → frameSandboxed w a ≡ true → (w .sandboxed ≡ true → X) → (sandboxes a ≡ true → X) → X

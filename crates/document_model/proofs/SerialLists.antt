@@ -10,7 +10,8 @@ use Rattle.ascii.proofs.Clash.{clash}
 use Rattle.ascii.specs.Bytes.{pick}
 use Rattle.document_model.specs.Model.{Identity, Document, Table, Call, elem, isAtOrBeneath, serialsBeneath, removedCount, remaining, tableAfter}
 use Rattle.document_model.specs.History.{Event, LoadedIn, BeneathIn, history, Member, first, later, Ascending, Exactly, AreLoaded, AreBeneath}
-use Rattle.document_model.proofs.Tables.{In, here, there, Rising, is-true}
+use Rattle.document_model.proofs.Booleans.{is-true}
+use Rattle.document_model.proofs.Tables.{In, here, there, Rising}
 use Rattle.document_model.proofs.Invariant.{Invariant, reachable}
 use Rattle.document_model.proofs.Agreement.{Agrees, agrees}
 

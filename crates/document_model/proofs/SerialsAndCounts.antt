@@ -15,6 +15,7 @@ use Rattle.containers.specs.Attributes.{Attributes}
 use Rattle.document_model.specs.Model.{Text, Identity, Document, valuesFrom, Table, newTable, isAtOrBeneath, find, remaining, serialsBeneath, removedCount, Call, topLoad, framedLoad, unload, listing, Answer, refused, loaded, removed, decision, features, serials, Outcome, refuse, accept, refuseUnless, withDocument, textsFit, stored, fittingOutcome, outcome, answerIn, tableIn, answerTo, tableLeft, tableAfter, answers, answersAfter}
 use Rattle.document_model.specs.History.{Event, LoadedIn, BeneathIn, history, Member, Exactly, AreLoaded, AreBeneath, given, acceptedLoads, unloadSum, Unloaded, unloaded, acceptedLoad}
 use Rattle.document_model.specs.Claims.{Listed}
+use Rattle.document_model.proofs.Booleans.{either-way}
 use Rattle.document_model.proofs.Tables.{In, in-remaining, remaining-in, rising-one}
 use Rattle.document_model.proofs.TwoRuns.{left-append}
 use Rattle.document_model.proofs.Invariant.{Invariant, reachable}
@@ -105,10 +106,6 @@ record Removal (t u : Table) (s n : ℕ) : Type 0 where
 removal : (t u : Table) (s n : ℕ) (a : Answer) → a ≡ removed n → Effect t (unload s) a u → Removal t u s n
 removal t u s n a e (nothing-else g v l r) = absurd (v s (subst (λ (b : Answer). Unloaded (unload s) b s) (sym e) unloaded))
 removal t u s n a e (all-removed k) = record { left = refl; many = cc }
-
-either-way : {X : Type 0} (b c : Bool) → c ≡ b → (c ≡ true → X) → (c ≡ false → X) → X
-either-way true c e f g = f e
-either-way false c e f g = g e
 
 removed-list : (cs : List Call) (s : ℕ) → tableAfter (cs ++ (unload s ∷ [])) .docs ≡ remaining s (tableAfter cs .docs) →
     Exactly (λ e. LoadedIn (history cs) e × (LoadedIn (history (cs ++ (unload s ∷ []))) e → ⊥)) (serialsWhere (isAtOrBeneath s) (tableAfter cs .docs))

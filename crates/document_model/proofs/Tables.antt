@@ -10,6 +10,7 @@ use lib.ListN.{length, length-append}
 use Rattle.ascii.proofs.Clash.{clash}
 use Rattle.ascii.specs.Bytes.{pick}
 use Rattle.document_model.specs.Model.{Identity, Document, Table, elem, isAtOrBeneath, find, remaining, removedCount, serialsBeneath}
+use Rattle.document_model.proofs.Booleans.{eqb-self, is-false, or-neither}
 
 -- ---- documents in a list
 
@@ -128,17 +129,6 @@ found-in s ds o (hit x m q) d e = let z : x ≡ d = cc in (subst (λ (y : Docume
 pub find-some : (s : ℕ) (ds : List Document) (d : Document) → find s ds ≡ some d → In d ds × (s ≡ d .identity .serial)
 find-some s ds d e = found-in s ds (find s ds) (finds s ds) d e
 
-pub is-true : (b : Bool) → T b → b ≡ true
-is-true true t = refl
-is-true false t = absurd t
-
-pub is-false : (b : Bool) → (T b → ⊥) → b ≡ false
-is-false true t = absurd (t tt)
-is-false false t = refl
-
-pub eqb-self : (n : ℕ) → eqb n n ≡ true
-eqb-self n = is-true (eqb n n) (eqb-refl n)
-
 pub in-find : (lo : ℕ) (ds : List Document) (hi : ℕ) → Rising lo ds hi → (c : Document) → In c ds → find (c .identity .serial) ds ≡ some c
 unfolding find pick
 in-find lo (d ∷ ds) hi r c here = rw (eqb-self (c .identity .serial))
@@ -158,11 +148,7 @@ unfolding removedCount remaining
 count s [] = refl
 count s (d ∷ ds) = count-part s d ds (isAtOrBeneath s (d .identity)) (count s ds)
 
-or-right : (a b : Bool) → a || b ≡ false → b ≡ false
-or-right true b e = clash cc
-or-right false b e = e
-
 -- the container of a document that stays, stays
 pub container-stays : (s : ℕ) (x c : Document) → x .identity .above ≡ c .identity .serial ∷ c .identity .above → isAtOrBeneath s (x .identity) ≡ false → isAtOrBeneath s (c .identity) ≡ false
 unfolding isAtOrBeneath elem
-container-stays s x c e h = subst (λ (l : List ℕ). elem s l ≡ false) e (or-right (eqb s (x .identity .serial)) (elem s (x .identity .above)) h)
+container-stays s x c e h = subst (λ (l : List ℕ). elem s l ≡ false) e (or-neither (eqb s (x .identity .serial)) (elem s (x .identity .above)) h)
