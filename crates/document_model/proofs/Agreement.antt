@@ -1,21 +1,17 @@
 -- "Loaded" and "beneath" as the calls and their answers tell them are what the table holds. Assumes nothing.
-use mathlib.Core.Path.{_≡_, refl, sym, ap, subst, _∙_}
-use Prim.Native.Nat.{ℕ, zero, suc, _+_, _≤_, _<_}
+use mathlib.Core.Path.{_≡_, refl, sym, subst, _∙_}
+use Prim.Native.Nat.{ℕ, suc, _+_, _<_}
 use native.Mathlib.Omega.{arith}
-use mathlib.Core.Bool.{Bool, true, false, not, _&&_, _||_}
-use mathlib.Core.Option.{Option, none, some}
+use mathlib.Core.Bool.{Bool, false, _||_}
 use mathlib.Core.List.{List, [], _∷_, _++_}
-use lib.Dec.{T, leb, ltb, eqb, eqb→eq, eqb-refl}
-use lib.ListN.{length}
-use Rattle.limits.specs.declared.Refusal.{Refusal}
-use Rattle.limits.specs.declared.Refusal.the-variants.{NotLoaded, NoSuchFeature, BadOrigin, TooLong, Sandbox, Full, Spent, Small}
-use Rattle.origins.specs.Origins.{Origin, OriginSaid, originOf}
+use lib.Dec.{T, eqb, eqb→eq, eqb-refl}
+use Rattle.origins.specs.Origins.{originOf}
 use Rattle.document_model.specs.Runs.{leftBy}
 use Rattle.containers.specs.Attributes.{Attributes}
-use Rattle.document_model.specs.Model.{Text, Identity, Document, Table, newTable, elem, isAtOrBeneath, find, remaining, serialsBeneath, removedCount, Call, topLoad, framedLoad, unload, question, enabledFeatures, listing, forecastOf, Answer, refused, loaded, removed, Outcome, refuse, accept, refuseUnless, withDocument, textsFit, load, topIdentity, framedIdentity, topDocument, framedDocument, fittingOutcome, outcome, answerIn, tableIn, answerTo, tableLeft, tableAfter}
+use Rattle.document_model.specs.Model.{Text, Identity, Document, Table, newTable, elem, isAtOrBeneath, remaining, removedCount, Call, topLoad, framedLoad, unload, Answer, loaded, removed, topIdentity, framedIdentity, topDocument, framedDocument, answerTo, tableLeft, tableAfter}
 use Rattle.document_model.specs.History.{Event, Gave, gave-top, gave-framed, Framed, framed-by, Unloaded, unloaded, Happened, last, earlier, BeneathIn, directly, through, LoadedIn, now, still, eventsFrom, history}
 use Rattle.document_model.proofs.Booleans.{or-cases, or-first, or-no, or-second}
-use Rattle.document_model.proofs.Tables.{In, here, there, in-left, in-last, in-push, in-remaining, remaining-in, Rising, rising-below, Finds, missing, hit, finds}
+use Rattle.document_model.proofs.Tables.{In, in-left, in-last, in-push, in-remaining, remaining-in, Rising, rising-below}
 use Rattle.document_model.proofs.Effects.{pushed, Effect, nothing-else, top-loaded, frame-loaded, all-removed, effect}
 use Rattle.document_model.proofs.Invariant.{Invariant, call-next, new-invariant}
 

@@ -1,9 +1,9 @@
 -- What each call does, in one of four ways, and what follows of numbers. Assumes nothing.
-use mathlib.Core.Path.{_≡_, refl, sym, ap, subst, _∙_}
-use Prim.Native.Nat.{ℕ, zero, suc, _+_, _≤_, _<_}
+use mathlib.Core.Path.{_≡_, refl, ap, _∙_}
+use Prim.Native.Nat.{ℕ, suc, _+_, _≤_, _<_}
 use native.Mathlib.Omega.{arith}
-use mathlib.Core.Bool.{Bool, true, false, not, _&&_, _||_}
-use mathlib.Core.Option.{Option, none, some}
+use mathlib.Core.Bool.{Bool, true, false}
+use mathlib.Core.Option.{Option}
 use mathlib.Core.List.{List, [], _∷_, _++_}
 use lib.Dec.{ltb→lt, leb→le}
 use lib.ListN.{length, length-append}
@@ -15,7 +15,7 @@ use Rattle.document_model.specs.Runs.{leftBy}
 use Rattle.containers.specs.Attributes.{Attributes}
 use Rattle.document_model.specs.Model.{Text, Identity, Document, Table, newTable, isAtOrBeneath, find, remaining, removedCount, Call, topLoad, framedLoad, unload, question, enabledFeatures, listing, forecastOf, Answer, refused, loaded, removed, Outcome, refuse, accept, refuseUnless, withDocument, textsFit, load, topIdentity, framedIdentity, topDocument, framedDocument, fittingOutcome, outcome, answerIn, tableIn, answerTo, tableLeft, tableAfter}
 use Rattle.document_model.specs.History.{Event, Gave, Unloaded, Happened, last, earlier, eventsFrom, history, acceptedLoad, unloadAnswer, acceptedLoads, unloadSum}
-use Rattle.document_model.proofs.Tables.{In, here, there, in-left, in-last, in-push, in-remaining, remaining-in, container-stays, Finds, missing, hit, finds, count}
+use Rattle.document_model.proofs.Tables.{In, in-left, in-push, in-remaining, remaining-in, container-stays, Finds, missing, hit, finds, count}
 
 -- what holds of a call's answer and of the table that it leaves
 abbrev pub Ends : (Answer → Table → Type 0) → Table → Outcome → Type 0

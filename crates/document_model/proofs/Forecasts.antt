@@ -2,38 +2,35 @@
 use mathlib.Core.Path.{_≡_, refl, sym, ap, subst, _∙_}
 use Prim.Native.Nat.{ℕ, zero, suc, _+_, _^_, _≤_, _<_}
 use native.Mathlib.Omega.{arith}
-use mathlib.Core.Bool.{Bool, true, false, not, _&&_, _||_}
+use mathlib.Core.Bool.{Bool, true, false, not, _||_}
 use mathlib.Core.Option.{Option, none, some}
 use mathlib.Core.List.{List, [], _∷_, _++_}
-use lib.Dec.{T, leb, ltb, eqb, lt→ltb}
-use lib.ListN.{length, getD}
+use lib.Dec.{ltb, lt→ltb}
+use lib.ListN.{getD}
 use Rattle.ascii.proofs.Clash.{clash}
-use Rattle.limits.specs.Limits.{documentLimit, lastSerial}
 use Rattle.limits.specs.declared.Refusal.{Refusal}
-use Rattle.limits.specs.declared.Refusal.the-variants.{NotLoaded, NoSuchFeature, BadOrigin, TooLong, Sandbox, Full, Spent, Small}
+use Rattle.limits.specs.declared.Refusal.the-variants.{BadOrigin, TooLong, Sandbox, Full, Spent}
 use Rattle.features.specs.Features.{featureCount}
 use Rattle.origins.specs.Origins.{Origin, OriginSaid, originOf, nullText}
-use Rattle.origins.specs.Origins.Origin.{tuple, opaque, fresh}
+use Rattle.origins.specs.Origins.Origin.{opaque, fresh}
 use Rattle.origins.specs.Origins.OriginSaid.{saysEmpty, saysNull, saysTuple, noOrigin}
 use Rattle.origins.specs.Matching.{sameOrigin}
 use Rattle.origins.proofs.Laws.{text-null, text-empty}
-use Rattle.allowlists.specs.Allowlists.{Allowlist}
 use Rattle.declarations.specs.Declarations.{declares, isMalformed}
 use Rattle.declarations.proofs.Laws.{empty-declares}
 use Rattle.containers.specs.Attributes.{Attributes}
 use Rattle.containers.specs.Sandboxes.{isSandboxed, declaredOrigin}
 use Rattle.containers.proofs.Laws.{declared-fresh, declared-empty, declared-null, declared-tuple}
-use Rattle.decisions.specs.Decisions.{Decision}
-use Rattle.decisions.specs.Decisions.Decision.{disabled, enabled}
-use Rattle.decisions.specs.Masks.{maskOf, decisionAt}
-use Rattle.decisions.specs.Policies.{Policy, Frame, valueIn, questionIn, inheritedIn, enabledMask, forecast}
+use Rattle.decisions.specs.Decisions.Decision.{disabled}
+use Rattle.decisions.specs.Masks.{decisionAt}
+use Rattle.decisions.specs.Policies.{Policy, Frame, questionIn, inheritedIn, enabledMask, forecast}
 use Rattle.decisions.proofs.Laws.{inherited-as-fresh, mask-back, mask-below, enabled-at, enabled-past, enabled-undeclared, forecast-is}
 use Rattle.document_model.specs.Runs.{leftBy}
-use Rattle.document_model.specs.Model.{Text, isGoodOrigin, isNull, arrivesAt, askedAt, Identity, Document, valuesFrom, declaredBy, policyOf, frameSandboxed, frameDeclared, frameOf, orFresh, Table, newTable, find, Call, framedLoad, question, enabledFeatures, forecastOf, Answer, refused, loaded, decision, features, Outcome, refuse, accept, refuseUnless, withDocument, textsFit, load, framedIdentity, framedDocument, fittingOutcome, outcome, answerIn, tableIn, answerTo, tableLeft, tableAfter}
+use Rattle.document_model.specs.Model.{Text, isGoodOrigin, isNull, arrivesAt, Identity, Document, valuesFrom, declaredBy, policyOf, frameSandboxed, frameDeclared, frameOf, orFresh, Table, newTable, find, Call, framedLoad, question, enabledFeatures, forecastOf, Answer, refused, loaded, decision, features, Outcome, accept, refuseUnless, withDocument, textsFit, load, framedIdentity, framedDocument, fittingOutcome, outcome, answerIn, answerTo, tableLeft, tableAfter}
 use Rattle.document_model.specs.Claims.{isAccepted, AtDeclared, as-src, as-null}
 use Rattle.document_model.proofs.Booleans.{is-true, not-either}
 use Rattle.document_model.proofs.OriginTexts.{good-not}
-use Rattle.document_model.proofs.Tables.{In, in-last, find-some, in-find}
+use Rattle.document_model.proofs.Tables.{in-last, find-some, in-find}
 use Rattle.document_model.proofs.TwoRuns.{left-append}
 use Rattle.document_model.proofs.Invariant.{Invariant, reachable, call-next}
 

@@ -1,36 +1,32 @@
 -- What each call leaves, and how Disabled flows down in a table. Assumes nothing.
-use mathlib.Core.Path.{_≡_, refl, sym, ap, subst, _∙_}
-use Prim.Native.Nat.{ℕ, zero, suc, _+_, _≤_, _<_}
+use mathlib.Core.Path.{_≡_, refl, sym, subst, _∙_}
+use Prim.Native.Nat.{ℕ, suc, _+_, _≤_, _<_}
 use native.Mathlib.Omega.{arith}
-use mathlib.Core.Bool.{Bool, true, false, not, _&&_, _||_}
+use mathlib.Core.Bool.{Bool, true, false}
 use mathlib.Core.Option.{Option, none, some}
 use mathlib.Core.List.{List, [], _∷_, _++_}
-use lib.Dec.{T, leb, ltb, eqb, eqb→eq, eqb-refl, ltb→lt, leb→le}
+use lib.Dec.{T, ltb, eqb, eqb→eq}
 use lib.ListN.{length, length-append}
 use Rattle.ascii.proofs.Clash.{clash}
 use Rattle.limits.specs.Limits.{documentLimit, lastSerial}
-use Rattle.limits.specs.declared.Refusal.{Refusal}
-use Rattle.limits.specs.declared.Refusal.the-variants.{NotLoaded, NoSuchFeature, BadOrigin, TooLong, Sandbox, Full, Spent, Small}
+use Rattle.limits.specs.declared.Refusal.the-variants.{NoSuchFeature}
 use Rattle.features.specs.Features.{featureCount}
-use Rattle.origins.specs.Origins.{Origin, OriginSaid, TupleOrigin, originOf}
-use Rattle.origins.specs.Origins.Origin.{tuple, opaque, fresh}
-use Rattle.origins.specs.Origins.OriginSaid.{saysEmpty, saysNull, saysTuple, noOrigin}
+use Rattle.origins.specs.Origins.{OriginSaid, originOf}
+use Rattle.origins.specs.Origins.Origin.{opaque}
 use Rattle.origins.specs.Matching.{sameOrigin}
-use Rattle.origins.proofs.Laws.{tuple-self, opaque-self, same-one, text-empty}
-use Rattle.declarations.specs.Declarations.{isMalformed}
-use Rattle.decisions.specs.Decisions.{Decision}
-use Rattle.decisions.specs.Decisions.Decision.{disabled, enabled}
-use Rattle.decisions.specs.Masks.{maskOf, decisionAt}
-use Rattle.decisions.specs.Policies.{Policy, Frame, questionIn, inheritedIn}
+use Rattle.origins.proofs.Laws.{opaque-self, text-empty}
+use Rattle.decisions.specs.Decisions.Decision.{disabled}
+use Rattle.decisions.specs.Masks.{decisionAt}
+use Rattle.decisions.specs.Policies.{questionIn, inheritedIn}
 use Rattle.decisions.proofs.Laws.{question-below, disabled-question, mask-disabled}
 use Rattle.document_model.specs.Runs.{leftBy}
 use Rattle.containers.specs.Attributes.{Attributes}
-use Rattle.document_model.specs.Model.{Text, isGoodOrigin, isNull, isGoodAtTop, arrivesAt, askedAt, Identity, Document, policyOf, frameSandboxed, frameOf, Table, newTable, elem, isAtOrBeneath, find, remaining, serialsBeneath, removedCount, Call, topLoad, framedLoad, unload, question, enabledFeatures, listing, forecastOf, Answer, refused, decision, Outcome, refuse, accept, refuseUnless, withDocument, textsFit, load, topIdentity, framedIdentity, topDocument, framedDocument, fittingOutcome, outcome, answerIn, tableIn, answerTo, tableLeft, tableAfter}
+use Rattle.document_model.specs.Model.{Text, isGoodOrigin, arrivesAt, askedAt, Document, policyOf, frameOf, Table, newTable, elem, isAtOrBeneath, find, remaining, Call, question, Answer, decision, Outcome, accept, refuseUnless, withDocument, textsFit, topIdentity, framedIdentity, topDocument, framedDocument, fittingOutcome, outcome, answerIn, answerTo, tableLeft, tableAfter}
 use Rattle.document_model.proofs.Booleans.{or-cases}
 use Rattle.document_model.proofs.OriginTexts.{arrives-apart, arrives-itself, empty-good, other-opaque}
 use Rattle.document_model.proofs.TwoRuns.{left-append}
 use Rattle.document_model.proofs.Effects.{pushed, Effect, nothing-else, top-loaded, frame-loaded, all-removed, effect}
-use Rattle.document_model.proofs.Tables.{In, here, there, in-left, in-push, in-remaining, remaining-in, Rising, rising-push, rising-remaining, rising-below, rising-one, Finds, missing, hit, finds, find-some, in-find, count, container-stays}
+use Rattle.document_model.proofs.Tables.{In, in-left, in-push, in-remaining, remaining-in, Rising, rising-push, rising-remaining, rising-below, rising-one, find-some, in-find, count, container-stays}
 
 -- ---- a later table
 

@@ -1,11 +1,10 @@
 -- Demand 3, second half: one item or word more, and what was Enabled stays Enabled. Each definition that `step` is made of has one lemma here, of the same shape. Assumes nothing.
 use mathlib.Core.Path.{_≡_, refl, sym, ap, subst, _∙_}
-use Prim.Native.Nat.{ℕ, zero, suc, _+_, _≤_, _<_}
-use native.Mathlib.Omega.{arith}
-use mathlib.Core.Bool.{Bool, true, false, not, _&&_, _||_}
+use Prim.Native.Nat.{ℕ, zero, suc, _+_}
+use mathlib.Core.Bool.{Bool, true, false, not, _||_}
 use mathlib.Core.Option.{Option, none, some}
 use mathlib.Core.List.{List, [], _∷_, _++_}
-use lib.Dec.{T, leb, ltb, eqb}
+use lib.Dec.{leb, ltb, eqb}
 use lib.ListN.{length, getD}
 use Rattle.ascii.proofs.Clash.{clash}
 use Rattle.ascii.specs.Bytes.{pick}
@@ -26,16 +25,15 @@ use Rattle.containers.specs.Sandboxes.{isSandboxed, declaredOrigin}
 use Rattle.containers.specs.Widening.{WordMore}
 use Rattle.containers.specs.Widening.WordMore.{word-more}
 use Rattle.containers.proofs.Laws.{word-as-wide, word-sandboxed, word-declared}
-use Rattle.decisions.specs.Decisions.{Decision}
-use Rattle.decisions.specs.Masks.{maskOf, decisionAt}
-use Rattle.decisions.specs.Policies.{Policy, Frame, questionIn, inheritedIn, enabledMask, forecast}
+use Rattle.decisions.specs.Masks.{decisionAt}
+use Rattle.decisions.specs.Policies.{questionIn, inheritedIn, enabledMask, forecast}
 use Rattle.decisions.specs.Widening as widening
 use Rattle.decisions.specs.Widening.{Stays, WiderPolicy, WiderFrame}
-use Rattle.decisions.proofs.Laws.{stays-self, frame-self, question-in-stays, inherited-in-stays, mask-stays, forecast-stays}
+use Rattle.decisions.proofs.Laws.{stays-self, question-in-stays, inherited-in-stays, mask-stays, forecast-stays}
 use Rattle.decisions.proofs.Laws as laws
-use Rattle.document_model.specs.Runs.{leftBy, answersBy, Each, no-more, each}
+use Rattle.document_model.specs.Runs.{Each, no-more, each}
 use Rattle.containers.specs.Attributes.{Attributes}
-use Rattle.document_model.specs.Model.{Text, isGoodOrigin, isNull, isGoodAtTop, arrivesAt, askedAt, Identity, Document, valuesFrom, declaredBy, policyOf, frameSandboxed, frameDeclared, orFresh, frameOf, Table, newTable, elem, isAtOrBeneath, find, remaining, serialsBeneath, removedCount, Call, topLoad, framedLoad, unload, question, enabledFeatures, listing, forecastOf, Answer, refused, loaded, removed, decision, features, serials, Outcome, refuse, accept, refuseUnless, withDocument, textsFit, load, topIdentity, framedIdentity, topDocument, framedDocument, stored, fittingOutcome, outcome, answerIn, tableIn, answerTo, tableLeft, tableAfter, answers}
+use Rattle.document_model.specs.Model.{Text, isGoodOrigin, isNull, askedAt, Identity, Document, valuesFrom, declaredBy, policyOf, frameSandboxed, frameDeclared, orFresh, frameOf, Table, elem, isAtOrBeneath, find, remaining, serialsBeneath, removedCount, Call, topLoad, framedLoad, unload, question, enabledFeatures, listing, forecastOf, Answer, refused, loaded, decision, features, Outcome, refuse, accept, refuseUnless, withDocument, textsFit, load, topIdentity, framedIdentity, topDocument, framedDocument, fittingOutcome, outcome, answerIn, tableIn, answerTo, tableLeft, tableAfter, answers}
 use Rattle.document_model.specs.Claims.{OneMore, item-top, item-framed, word-framed, word-forecast, isAccepted, Keeps, equal, enabled-stays, bits-stay}
 use Rattle.document_model.proofs.TwoRuns.{Follow, two-runs}
 

@@ -1,11 +1,11 @@
 -- Refusals, exactly: each call's first row. Assumes nothing.
 use mathlib.Core.Path.{_≡_, refl, sym, ap, subst, _∙_}
-use Prim.Native.Nat.{ℕ, zero, suc, _+_, _≤_, _<_}
+use Prim.Native.Nat.{ℕ, zero, suc, _≤_, _<_}
 use native.Mathlib.Omega.{arith}
 use mathlib.Core.Bool.{Bool, true, false, not, _&&_, _||_}
-use mathlib.Core.Option.{Option, none, some}
-use mathlib.Core.List.{List, [], _∷_, _++_}
-use lib.Dec.{T, leb, ltb, eqb, ltb→lt}
+use mathlib.Core.Option.{Option}
+use mathlib.Core.List.{List}
+use lib.Dec.{leb, ltb}
 use lib.ListN.{length}
 use borrow.Author.Tests.{ltb-true, ltb-false, leb-true, leb-false}
 use Rattle.ascii.proofs.Clash.{clash}
@@ -15,18 +15,17 @@ use Rattle.limits.specs.declared.Refusal.{Refusal}
 use Rattle.features.specs.Features.{featureCount}
 use Rattle.origins.specs.Origins.{OriginSaid, originOf}
 use Rattle.origins.specs.Origins.OriginSaid.{saysEmpty, saysNull, saysTuple, noOrigin}
-use Rattle.containers.specs.Sandboxes.{sandboxes}
 use Rattle.containers.specs.Attributes.{Attributes}
-use Rattle.document_model.specs.Model.{Text, isGoodOrigin, isNull, isGoodAtTop, Identity, Document, frameSandboxed, Table, find, serialsBeneath, Call, topLoad, framedLoad, unload, question, enabledFeatures, listing, forecastOf, Answer, refused, loaded, Outcome, refuse, accept, refuseUnless, withDocument, isShort, textsFit, load, fittingOutcome, outcome, answerIn, answerTo, tableAfter}
-use Rattle.document_model.specs.History.{Event, LoadedIn, BeneathIn, SandboxedIn, AreLoaded, AreBeneath, acceptedLoads, history}
+use Rattle.document_model.specs.Model.{Text, isGoodOrigin, isNull, isGoodAtTop, Identity, Document, frameSandboxed, Table, find, serialsBeneath, Call, topLoad, framedLoad, unload, question, enabledFeatures, listing, forecastOf, Answer, refused, Outcome, refuse, accept, refuseUnless, withDocument, isShort, textsFit, load, fittingOutcome, outcome, answerIn, answerTo, tableAfter}
+use Rattle.document_model.specs.History.{Event, LoadedIn, BeneathIn, history}
 use Rattle.document_model.specs.Claims.{isAccepted}
 use Rattle.document_model.specs.Refusals.{Row, inputLong, badOrigin, badSrc, noFeature, notLoaded, sandboxed, full, spent, notDictionary, outputLong, small, place, refusalOf, Input, top-header, framed-header, framed-allow, framed-sandbox, forecast-allow, forecast-sandbox, Names, framed-names, unload-names, question-names, enabled-names, listing-names, forecast-names, IsLoad, is-top, is-framed, Holds, long, top-bad, top-empty, framed-bad, question-bad, framed-src, forecast-src, over-sixteen, closed, in-container, in-attribute, sixteen, all-given, short-run, First}
 use Rattle.document_model.proofs.Booleans.{and-no, not-either, not-or-true}
 use Rattle.document_model.proofs.OriginTexts.{good-not, is-null, not-good, not-null}
 use Rattle.document_model.proofs.Tables.{In, Finds, missing, hit, finds}
-use Rattle.document_model.proofs.Invariant.{Invariant, reachable}
-use Rattle.document_model.proofs.Agreement.{Agrees, agrees}
-use Rattle.document_model.proofs.Effects.{Counted, counted}
+use Rattle.document_model.proofs.Invariant.{reachable}
+use Rattle.document_model.proofs.Agreement.{agrees}
+use Rattle.document_model.proofs.Effects.{counted}
 use Rattle.document_model.proofs.SerialLists.{serialsWhere, all-where, exactly-one, loaded-list, beneath-list}
 use Rattle.document_model.proofs.Sandboxed.{marked-told, told-marked, sandboxed-either, sandboxed-by-container, sandboxed-by-attributes}
 

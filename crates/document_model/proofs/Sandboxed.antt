@@ -1,11 +1,11 @@
 -- "Sandboxed" as the calls and answers tell it is the mark of the document. Assumes nothing.
-use mathlib.Core.Path.{_≡_, refl, sym, ap, subst, _∙_}
+use mathlib.Core.Path.{_≡_, refl, sym, _∙_}
 use Prim.Native.Nat.{ℕ, suc, _<_}
 use native.Mathlib.Omega.{arith}
-use mathlib.Core.Bool.{Bool, true, false, _||_}
-use mathlib.Core.List.{List, [], _∷_, _++_}
+use mathlib.Core.Bool.{Bool, true}
+use mathlib.Core.List.{List, [], _∷_}
 use Rattle.ascii.proofs.Clash.{clash}
-use Rattle.origins.specs.Origins.{OriginSaid, originOf}
+use Rattle.origins.specs.Origins.{originOf}
 use Rattle.containers.specs.Sandboxes.{sandboxes}
 use Rattle.containers.proofs.Laws.{sandboxed-is}
 use Rattle.containers.specs.Attributes.{Attributes}

@@ -1,19 +1,17 @@
 -- Lists of serials: those of the documents that pass a test, and that an ascending list is known by its members. Assumes nothing.
-use mathlib.Core.Path.{_≡_, refl, sym, ap, subst, _∙_}
-use Prim.Native.Nat.{ℕ, zero, suc, _+_, _≤_, _<_}
+use mathlib.Core.Path.{_≡_, refl, sym, ap, _∙_}
+use Prim.Native.Nat.{ℕ, suc, _≤_}
 use native.Mathlib.Omega.{arith}
 use mathlib.Core.Bool.{Bool, true, false}
-use mathlib.Core.List.{List, [], _∷_, _++_}
-use lib.Dec.{T, eqb}
+use mathlib.Core.List.{List, [], _∷_}
 use lib.ListN.{length}
-use Rattle.ascii.proofs.Clash.{clash}
 use Rattle.ascii.specs.Bytes.{pick}
-use Rattle.document_model.specs.Model.{Identity, Document, Table, Call, elem, isAtOrBeneath, serialsBeneath, removedCount, remaining, tableAfter}
-use Rattle.document_model.specs.History.{Event, LoadedIn, BeneathIn, history, Member, first, later, Ascending, Exactly, AreLoaded, AreBeneath}
+use Rattle.document_model.specs.Model.{Identity, Document, Call, elem, isAtOrBeneath, serialsBeneath, removedCount, tableAfter}
+use Rattle.document_model.specs.History.{history, Member, first, later, Ascending, Exactly, AreLoaded, AreBeneath}
 use Rattle.document_model.proofs.Booleans.{is-true}
 use Rattle.document_model.proofs.Tables.{In, here, there, Rising}
-use Rattle.document_model.proofs.Invariant.{Invariant, reachable}
-use Rattle.document_model.proofs.Agreement.{Agrees, agrees}
+use Rattle.document_model.proofs.Invariant.{reachable}
+use Rattle.document_model.proofs.Agreement.{agrees}
 
 -- the serials of the documents that pass a test
 unfoldable pub serialsWhere : (Identity → Bool) → List Document → List ℕ

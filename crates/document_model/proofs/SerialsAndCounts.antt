@@ -1,26 +1,24 @@
 -- Serials, counts, listings; and that a refused call changes nothing. Assumes nothing.
 use mathlib.Core.Path.{_≡_, refl, sym, ap, subst, _∙_}
-use Prim.Native.Nat.{ℕ, zero, suc, _+_, _≤_, _<_}
+use Prim.Native.Nat.{ℕ, _+_}
 use native.Mathlib.Omega.{arith}
 use mathlib.Core.Bool.{Bool, true, false}
 use mathlib.Core.Option.{Option, none, some}
 use mathlib.Core.List.{List, [], _∷_, _++_}
-use lib.Dec.{T, leb, ltb, eqb}
-use lib.ListN.{length, drop}
+use lib.Dec.{leb}
+use lib.ListN.{length}
 use Rattle.ascii.proofs.Clash.{clash}
 use Rattle.limits.specs.declared.Refusal.{Refusal}
 use Rattle.limits.specs.declared.Refusal.the-variants.{Small}
 use Rattle.document_model.specs.Runs.{leftBy, answersBy}
-use Rattle.containers.specs.Attributes.{Attributes}
-use Rattle.document_model.specs.Model.{Text, Identity, Document, valuesFrom, Table, newTable, isAtOrBeneath, find, remaining, serialsBeneath, removedCount, Call, topLoad, framedLoad, unload, listing, Answer, refused, loaded, removed, decision, features, serials, Outcome, refuse, accept, refuseUnless, withDocument, textsFit, stored, fittingOutcome, outcome, answerIn, tableIn, answerTo, tableLeft, tableAfter, answers, answersAfter}
-use Rattle.document_model.specs.History.{Event, LoadedIn, BeneathIn, history, Member, Exactly, AreLoaded, AreBeneath, given, acceptedLoads, unloadSum, Unloaded, unloaded, acceptedLoad}
+use Rattle.document_model.specs.Model.{Document, valuesFrom, Table, newTable, isAtOrBeneath, find, remaining, serialsBeneath, removedCount, Call, unload, listing, Answer, refused, loaded, removed, decision, features, serials, accept, refuseUnless, withDocument, textsFit, stored, fittingOutcome, outcome, answerIn, answerTo, tableLeft, tableAfter, answers, answersAfter}
+use Rattle.document_model.specs.History.{LoadedIn, BeneathIn, history, Member, Exactly, AreLoaded, AreBeneath, given, acceptedLoads, unloadSum, Unloaded, unloaded, acceptedLoad}
 use Rattle.document_model.specs.Claims.{Listed}
 use Rattle.document_model.proofs.Booleans.{either-way}
 use Rattle.document_model.proofs.Tables.{In, in-remaining, remaining-in, rising-one}
-use Rattle.document_model.proofs.TwoRuns.{left-append}
 use Rattle.document_model.proofs.Invariant.{Invariant, reachable}
 use Rattle.document_model.proofs.Agreement.{Agrees, agrees}
-use Rattle.document_model.proofs.Effects.{pushed, Effect, nothing-else, top-loaded, frame-loaded, all-removed, effect, Counted, counted}
+use Rattle.document_model.proofs.Effects.{Effect, nothing-else, top-loaded, frame-loaded, all-removed, effect, counted}
 use Rattle.document_model.proofs.SerialLists.{serialsWhere, all-where, removed-where, exactly-one, loaded-list, beneath-list, where-sound, where-whole, where-ascends-low}
 use Rattle.document_model.proofs.Forecasts.{after-more}
 

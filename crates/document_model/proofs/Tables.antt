@@ -1,15 +1,15 @@
 -- Documents in a list by serial: finding, keeping, what rises. Assumes nothing.
-use mathlib.Core.Path.{_≡_, refl, sym, ap, subst, _∙_}
-use Prim.Native.Nat.{ℕ, zero, suc, _+_, _≤_, _<_}
+use mathlib.Core.Path.{_≡_, refl, ap, subst, _∙_}
+use Prim.Native.Nat.{ℕ, suc, _+_, _≤_, _<_}
 use native.Mathlib.Omega.{arith}
-use mathlib.Core.Bool.{Bool, true, false, not, _&&_, _||_}
+use mathlib.Core.Bool.{Bool, true, false}
 use mathlib.Core.Option.{Option, none, some}
 use mathlib.Core.List.{List, [], _∷_, _++_}
-use lib.Dec.{T, leb, ltb, eqb, eqb→eq, eqb-refl, ltb→lt}
-use lib.ListN.{length, length-append}
+use lib.Dec.{T, eqb, eqb→eq, eqb-refl}
+use lib.ListN.{length}
 use Rattle.ascii.proofs.Clash.{clash}
 use Rattle.ascii.specs.Bytes.{pick}
-use Rattle.document_model.specs.Model.{Identity, Document, Table, elem, isAtOrBeneath, find, remaining, removedCount, serialsBeneath}
+use Rattle.document_model.specs.Model.{Document, elem, isAtOrBeneath, find, remaining, removedCount}
 use Rattle.document_model.proofs.Booleans.{eqb-self, is-false, or-neither}
 
 -- ---- documents in a list

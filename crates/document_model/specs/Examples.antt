@@ -1,8 +1,8 @@
 -- Runs on a new table, by computation.
 use Prim.Native.Nat.{ℕ, zero, suc}
 use mathlib.Core.Path.{_≡_, refl}
-use mathlib.Core.Bool.{Bool, true, false}
-use mathlib.Core.List.{List, [], _∷_, _++_}
+use mathlib.Core.Bool.{false}
+use mathlib.Core.List.{List, [], _∷_}
 use Rattle.ascii.specs.Literals.{text}
 use Rattle.limits.specs.declared.Refusal.the-variants.{NotLoaded, NoSuchFeature, Full, Spent}
 use native.Mathlib.Omega.{arith}
@@ -12,7 +12,7 @@ use Rattle.pieces.specs.OneWordMore.{OneWordMore}
 use Rattle.containers.specs.Policies.{isSemicolon}
 use Rattle.decisions.specs.Decisions.Decision.{disabled, enabled}
 use Rattle.containers.specs.Attributes.{Attributes}
-use Rattle.document_model.specs.Model.{Table, newTable, Call, topLoad, framedLoad, unload, question, enabledFeatures, listing, forecastOf, refused, loaded, removed, decision, features, serials, answerTo, tableLeft, tableAfter, answers}
+use Rattle.document_model.specs.Model.{Table, Call, topLoad, framedLoad, unload, question, enabledFeatures, listing, forecastOf, refused, loaded, removed, decision, features, serials, answerTo, tableLeft, tableAfter, answers}
 use Rattle.document_model.specs.History.{BeneathIn, directly, through, last, earlier, framed-by, history}
 use Rattle.document_model.specs.Computing.{computing}
 

@@ -2,8 +2,7 @@
 use Prim.Native.Nat.{ℕ, suc, _+_, _≤_}
 use mathlib.Core.Path.{_≡_}
 use mathlib.Core.Bool.{Bool, true}
-use mathlib.Core.List.{List, [], _∷_, _++_}
-use lib.ListN.{length, drop}
+use mathlib.Core.List.{List, [], _∷_}
 use Rattle.containers.specs.Sandboxes.{sandboxes}
 use Rattle.containers.specs.Attributes.{Attributes}
 use Rattle.document_model.specs.Model.{Text, Table, newTable, Call, topLoad, framedLoad, unload, Answer, refused, loaded, removed, decision, features, serials, answerTo, tableLeft}
