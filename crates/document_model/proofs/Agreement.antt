@@ -1,4 +1,4 @@
--- "Loaded" and "beneath" as the calls and their answers tell them are what the table holds. Assumes nothing.
+-- "Loaded" and "beneath" by the history are what the table holds. Assumes nothing.
 use mathlib.Core.Path.{_≡_, refl, sym, subst, _∙_}
 use Prim.Native.Nat.{ℕ, suc, _+_, _<_}
 use native.Mathlib.Omega.{arith}
@@ -71,7 +71,7 @@ quiet {es} {t} c a ng nu h = record {
     older-now last f = absurd (ng _ (framed-gave f))
     older-now (earlier p) f = h .older p f
 
--- a load of x: the event frames it under what stands above it, if anything
+-- a load of x, whose event names the container that stands first above it, if any
 loads : {es : List Event} {t : Table} (c : Call) (a : Answer) (x : Document) → x .identity .serial ≡ t .next → Rising 1 (t .docs) (t .next) → Agrees es t →
     Gave c a (x .identity .serial) → ((s : ℕ) → Gave c a s → s ≡ t .next) → ((s : ℕ) → Unloaded c a s → ⊥) →
     ((s k : ℕ) → Framed c a s k → k < s) →
@@ -101,7 +101,7 @@ loads {es} {t} c a x e i h gave only nu less to from = record {
     older-now last f = less _ _ f
     older-now (earlier p) f = h .older p f
 
--- a document that goes, or stays
+-- a document that an unload removes, or leaves
 not-beneath : (u : ℕ) (w : Identity) → (u ≡ w .serial → ⊥) → (T (elem u (w .above)) → ⊥) → isAtOrBeneath u w ≡ false
 unfolding isAtOrBeneath
 not-beneath u w f g = or-no (eqb u (w .serial)) (elem u (w .above)) (λ t. f (eqb→eq u (w .serial) t)) g
@@ -154,9 +154,9 @@ unloads {es} {t} u n h = record {
 -- ---- every call
 
 module _ (es : List Event) (t : Table) (i : Invariant t) (h : Agrees es t) where
-  top-held : (hd o : Text) (b : Bool) → Agrees (record { call = topLoad hd o; answer = loaded (t .next) b } ∷ es) (pushed t (topDocument hd (topIdentity (originOf o) (t .next))))
+  top-agrees : (hd o : Text) (b : Bool) → Agrees (record { call = topLoad hd o; answer = loaded (t .next) b } ∷ es) (pushed t (topDocument hd (topIdentity (originOf o) (t .next))))
   unfolding topDocument topIdentity elem
-  top-held hd o b =
+  top-agrees hd o b =
       loads (topLoad hd o) (loaded (t .next) b) (topDocument hd (topIdentity (originOf o) (t .next))) refl (i .rising) h gave-top only (λ s u. elim u [ ]) (λ s k f. elim f [ ]) to (λ d e. absurd e)
     where
       only : (s : ℕ) → Gave (topLoad hd o) (loaded (t .next) b) s → s ≡ t .next
@@ -166,10 +166,10 @@ module _ (es : List Event) (t : Table) (i : Invariant t) (h : Agrees es t) where
       to d (directly (earlier p) f) = omega (arith, h .known p (framed-gave f))
       to d (through (earlier p) f k) = omega (arith, h .known p (framed-gave f))
 
-  framed-held : (c : ℕ) (hd o : Text) (a : Attributes) (d : Document) → In d (t .docs) → c ≡ d .identity .serial → (b : Bool) →
+  framed-agrees : (c : ℕ) (hd o : Text) (a : Attributes) (d : Document) → In d (t .docs) → c ≡ d .identity .serial → (b : Bool) →
       Agrees (record { call = framedLoad c hd o a; answer = loaded (t .next) b } ∷ es) (pushed t (framedDocument d hd a (framedIdentity (d .identity) a (originOf o) (t .next))))
   unfolding framedDocument framedIdentity elem
-  framed-held c hd o a d m e b =
+  framed-agrees c hd o a d m e b =
       loads (framedLoad c hd o a) (loaded (t .next) b) (framedDocument d hd a (framedIdentity (d .identity) a (originOf o) (t .next))) refl (i .rising) h gave-framed only (λ s u. elim u [ ]) less (λ z k. to (t .next) z k refl) from
     where
       below : d .identity .serial < t .next
@@ -197,19 +197,19 @@ module _ (es : List Event) (t : Table) (i : Invariant t) (h : Agrees es t) where
           (λ q. let w : c ≡ z = e ∙ sym (eqb→eq z (d .identity .serial) q) in rw (← w) (directly last framed-by))
           (λ q. through last framed-by (beneath-later (rw e (h .chained d m z q))))
 
-effect-held : (es : List Event) (t u : Table) (c : Call) (a : Answer) → Invariant t → Agrees es t → Effect t c a u → Agrees (record { call = c; answer = a } ∷ es) u
-effect-held es t u c a i h (nothing-else g v l r) = quiet c a g v h
-effect-held es t u c a i h (top-loaded hd o b p q) = top-held es t i h hd o b
-effect-held es t u c a i h (frame-loaded k hd o b m d j e p q) = framed-held es t i h k hd o b d j e m
-effect-held es t u c a i h (all-removed s) = unloads s (removedCount s (t .docs)) h
+effect-agrees : (es : List Event) (t u : Table) (c : Call) (a : Answer) → Invariant t → Agrees es t → Effect t c a u → Agrees (record { call = c; answer = a } ∷ es) u
+effect-agrees es t u c a i h (nothing-else g v l r) = quiet c a g v h
+effect-agrees es t u c a i h (top-loaded hd o b p q) = top-agrees es t i h hd o b
+effect-agrees es t u c a i h (frame-loaded k hd o b m d j e p q) = framed-agrees es t i h k hd o b d j e m
+effect-agrees es t u c a i h (all-removed s) = unloads s (removedCount s (t .docs)) h
 
-past-held : (cs : List Call) (t : Table) (es : List Event) → Invariant t → Agrees es t → Agrees (eventsFrom cs t es) (leftBy tableLeft cs t)
+events-agree : (cs : List Call) (t : Table) (es : List Event) → Invariant t → Agrees es t → Agrees (eventsFrom cs t es) (leftBy tableLeft cs t)
 unfolding eventsFrom leftBy
-past-held [] t es i h = h
-past-held (c ∷ cs) t es i h = past-held cs (tableLeft c t) (record { call = c; answer = answerTo c t } ∷ es) (call-next c t i .inv) (effect-held es t (tableLeft c t) c (answerTo c t) i h (effect c t))
+events-agree [] t es i h = h
+events-agree (c ∷ cs) t es i h = events-agree cs (tableLeft c t) (record { call = c; answer = answerTo c t } ∷ es) (call-next c t i .inv) (effect-agrees es t (tableLeft c t) c (answerTo c t) i h (effect c t))
 
-new-held : Agrees [] newTable
-new-held = record {
+new-agrees : Agrees [] newTable
+new-agrees = record {
   is-there = λ s l. elim l [ ];
   told = λ x m. elim m [ ];
   chain = λ x m. elim m [ ];
@@ -221,4 +221,4 @@ new-held = record {
 -- after any list of calls the table holds what the history tells
 pub agrees : (cs : List Call) → Agrees (history cs) (tableAfter cs)
 unfolding history tableAfter
-agrees cs = past-held cs newTable [] new-invariant new-held
+agrees cs = events-agree cs newTable [] new-invariant new-agrees

@@ -1,4 +1,4 @@
--- What each call does, in one of four ways, and what follows of numbers. Assumes nothing.
+-- What each call does, in one of four ways; so each property of lists of calls is four cases. With it the counts, and that each document is what its load made of its container. Assumes nothing.
 use mathlib.Core.Path.{_≡_, refl, ap, _∙_}
 use Prim.Native.Nat.{ℕ, suc, _+_, _≤_, _<_}
 use native.Mathlib.Omega.{arith}
@@ -13,9 +13,19 @@ use Rattle.limits.specs.declared.Refusal.the-variants.{NotLoaded, NoSuchFeature
 use Rattle.origins.specs.Origins.{OriginSaid, originOf}
 use Rattle.document_model.specs.Runs.{leftBy}
 use Rattle.containers.specs.Attributes.{Attributes}
-use Rattle.document_model.specs.Model.{Text, Identity, Document, Table, newTable, isAtOrBeneath, find, remaining, removedCount, Call, topLoad, framedLoad, unload, question, enabledFeatures, listing, forecastOf, Answer, refused, loaded, removed, Outcome, refuse, accept, refuseUnless, withDocument, textsFit, load, topIdentity, framedIdentity, topDocument, framedDocument, fittingOutcome, outcome, answerIn, tableIn, answerTo, tableLeft, tableAfter}
+use Rattle.document_model.specs.Model.{Text, Identity, Document, Table, newTable, isAtOrBeneath, find, remaining, removedCount, Call, topLoad, framedLoad, unload, question, enabledFeatures, listing, forecastOf, Answer, refused, loaded, removed, Outcome, refuse, accept, refuseUnless, withDocument, textsFit, load, topIdentity, framedIdentity, topDocument, framedDocument, fittingOutcome, outcome, answerIn, tableIn, answerTo, tableLeft, tableAfter, answers, answersAfter}
 use Rattle.document_model.specs.History.{Event, Gave, Unloaded, Happened, last, earlier, eventsFrom, history, acceptedLoad, unloadAnswer, acceptedLoads, unloadSum}
+use Rattle.document_model.proofs.TwoRuns.{left-append, answers-append}
 use Rattle.document_model.proofs.Tables.{In, in-left, in-push, in-remaining, remaining-in, container-stays, Finds, missing, hit, finds, count}
+
+-- further calls go on from the table that the calls before them left
+pub table-append : (cs ds : List Call) → tableAfter (cs ++ ds) ≡ leftBy tableLeft ds (tableAfter cs)
+unfolding tableAfter
+table-append cs ds = left-append tableLeft cs ds newTable
+
+pub answers-after : (cs ds : List Call) → answers (cs ++ ds) ≡ answers cs ++ answersAfter cs ds
+unfolding answers tableAfter
+answers-after cs ds = answers-append answerTo tableLeft cs ds newTable
 
 -- what holds of a call's answer and of the table that it leaves
 abbrev pub Ends : (Answer → Table → Type 0) → Table → Outcome → Type 0
@@ -110,7 +120,7 @@ unfolding eventsFrom leftBy
 history-induction P f [] t es h = h
 history-induction P f (c ∷ cs) t es h = history-induction P f cs (tableLeft c t) (record { call = c; answer = answerTo c t } ∷ es) (f es t (tableLeft c t) c (answerTo c t) h (effect c t))
 
--- claim 3: the number loaded is accepted loads minus the sum of the unload answers, and the next serial is one more than accepted loads
+-- the number of documents is accepted loads minus the sum of the unload answers, and the next serial is one more than accepted loads
 pub counted : (cs : List Call) → Counted (history cs) (tableAfter cs)
 unfolding history tableAfter acceptedLoads unloadSum
 counted cs = history-induction Counted counts cs newTable [] (record { number = refl; serial = refl })

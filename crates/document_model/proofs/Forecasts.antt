@@ -1,4 +1,4 @@
--- A forecast comes true. Assumes nothing.
+-- Claim 4: a frame's document that arrives at the declared origin inherits what was forecast, and with an empty header has that enabled; an opaque origin of its own inherits as a fresh one. Assumes nothing.
 use mathlib.Core.Path.{_≡_, refl, sym, ap, subst, _∙_}
 use Prim.Native.Nat.{ℕ, zero, suc, _+_, _^_, _≤_, _<_}
 use native.Mathlib.Omega.{arith}
@@ -26,12 +26,12 @@ use Rattle.decisions.specs.Masks.{decisionAt}
 use Rattle.decisions.specs.Policies.{Policy, Frame, questionIn, inheritedIn, enabledMask, forecast}
 use Rattle.decisions.proofs.Laws.{inherited-as-fresh, mask-back, mask-below, enabled-at, enabled-past, enabled-undeclared, forecast-is}
 use Rattle.document_model.specs.Runs.{leftBy}
-use Rattle.document_model.specs.Model.{Text, isGoodOrigin, isNull, arrivesAt, Identity, Document, valuesFrom, declaredBy, policyOf, frameSandboxed, frameDeclared, frameOf, orFresh, Table, newTable, find, Call, framedLoad, question, enabledFeatures, forecastOf, Answer, refused, loaded, decision, features, Outcome, accept, refuseUnless, withDocument, textsFit, load, framedIdentity, framedDocument, fittingOutcome, outcome, answerIn, answerTo, tableLeft, tableAfter}
+use Rattle.document_model.specs.Model.{Text, isGoodOrigin, isNull, arrivesAt, Identity, Document, valuesFrom, declaredBy, policyOf, frameSandboxed, frameDeclared, frameOf, orFresh, Table, find, Call, framedLoad, question, enabledFeatures, forecastOf, Answer, refused, loaded, decision, features, Outcome, accept, refuseUnless, withDocument, textsFit, load, framedIdentity, framedDocument, fittingOutcome, outcome, answerIn, answerTo, tableLeft, tableAfter}
 use Rattle.document_model.specs.Claims.{isAccepted, AtDeclared, as-src, as-null}
 use Rattle.document_model.proofs.Booleans.{is-true, not-either}
 use Rattle.document_model.proofs.OriginTexts.{good-not}
 use Rattle.document_model.proofs.Tables.{in-last, find-some, in-find}
-use Rattle.document_model.proofs.TwoRuns.{left-append}
+use Rattle.document_model.proofs.Effects.{table-append}
 use Rattle.document_model.proofs.Invariant.{Invariant, reachable, call-next}
 
 -- `AtDeclared` on a table
@@ -135,7 +135,7 @@ accepted-forecast t c a e =
     let w = with-passed (find c (t .docs)) _ e2 in
     record { doc = w .0; is = w .1; steps = p1 .1 ∙ p2 .1 ∙ w .2 }
 
--- a load is never refused with 5 once the container is asked
+-- past the row of 5 a load isn't refused with 5
 load-free : (t : Table) (b : Bool) (make : Identity → Document) (identity : ℕ → Identity) → answerIn (load t b make identity) ≡ refused Sandbox → ⊥
 unfolding load
 load-free t b make identity e =
@@ -196,10 +196,6 @@ answers-enabled : (t : Table) (s : ℕ) (x : Document) → find s (t .docs) ≡ 
 unfolding answerTo outcome fittingOutcome refuseUnless textsFit withDocument
 answers-enabled t s x e = rw e refl
 
-pub after-more : (cs ds : List Call) → tableAfter (cs ++ ds) ≡ leftBy tableLeft ds (tableAfter cs)
-unfolding tableAfter
-after-more cs ds = left-append tableLeft cs ds newTable
-
 forecast-keeps : (t : Table) (c : ℕ) (a : Attributes) (m : ℕ) → answerTo (forecastOf c a) t ≡ features m → tableLeft (forecastOf c a) t ≡ t
 unfolding tableLeft
 forecast-keeps t c a m e = let w = accepted-forecast t c a (rw e refl) in rw (w .steps) refl
@@ -213,7 +209,7 @@ forecast-found t c a m d p e =
     let r : m ≡ forecast (policyOf (w .doc)) (frameOf (w .doc .identity) a) = cc in
     r ∙ ap (λ (x : Document). forecast (policyOf x) (frameOf (x .identity) a)) z
 
--- what a step that is accepted says and leaves
+-- what an accepted call answers and leaves
 outcome-leaves : (c : Call) (t u : Table) (a : Answer) → outcome c t ≡ accept a u → tableLeft c t ≡ u
 unfolding tableLeft
 outcome-leaves c t u a e = rw e refl
@@ -274,8 +270,8 @@ unfolding leftBy
 forecast-comes-true cs c o a m s bad e at l =
     let t = tableAfter cs in
     let same : tableLeft (forecastOf c a) t ≡ t = forecast-keeps t c a m e in
-    let first : tableAfter (cs ++ (forecastOf c a ∷ [])) ≡ t = after-more cs (forecastOf c a ∷ []) ∙ same in
-    let both : tableAfter (cs ++ (forecastOf c a ∷ framedLoad c [] o a ∷ [])) ≡ tableLeft (framedLoad c [] o a) t = after-more cs (forecastOf c a ∷ framedLoad c [] o a ∷ []) ∙ ap (tableLeft (framedLoad c [] o a)) same in
+    let first : tableAfter (cs ++ (forecastOf c a ∷ [])) ≡ t = table-append cs (forecastOf c a ∷ []) ∙ same in
+    let both : tableAfter (cs ++ (forecastOf c a ∷ framedLoad c [] o a ∷ [])) ≡ tableLeft (framedLoad c [] o a) t = table-append cs (forecastOf c a ∷ framedLoad c [] o a ∷ []) ∙ ap (tableLeft (framedLoad c [] o a)) same in
     let w = arrived t (reachable cs) c [] o a m s bad e (declared-text at) (rw first at l) in
     rw both (answers-enabled (tableLeft (framedLoad c [] o a) t) s (w .doc) (w .is) ∙ ap features (empty-enabled (w .doc) (w .declares) (w .equals-itself) (w .small) ∙ w .inherits))
 

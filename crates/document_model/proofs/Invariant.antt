@@ -1,4 +1,4 @@
--- What each call leaves, and how Disabled flows down in a table. Assumes nothing.
+-- What holds of every table that calls leave: serials rise, a container is there and older, and hands on what it is Disabled for. So Disabled flows down in a table. Assumes nothing.
 use mathlib.Core.Path.{_≡_, refl, sym, subst, _∙_}
 use Prim.Native.Nat.{ℕ, suc, _+_, _≤_, _<_}
 use native.Mathlib.Omega.{arith}

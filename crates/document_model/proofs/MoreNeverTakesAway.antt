@@ -1,4 +1,4 @@
--- Demand 3, second half: one item or word more, and what was Enabled stays Enabled. Each definition that `step` is made of has one lemma here, of the same shape. Assumes nothing.
+-- Claim 2: one item or word more, and what was Enabled stays Enabled. Each definition that `outcome` is made of has one lemma here, of the same shape. Assumes nothing.
 use mathlib.Core.Path.{_≡_, refl, sym, ap, subst, _∙_}
 use Prim.Native.Nat.{ℕ, zero, suc, _+_}
 use mathlib.Core.Bool.{Bool, true, false, not, _||_}
@@ -277,7 +277,7 @@ more-follows = record { answer = call-answer; table = call-table }
 
 -- ---- the claim
 
--- an accepted call fits
+-- the texts of an accepted call are short enough
 fit : (b : Bool) (k : Outcome) → isAccepted (answerIn (refuseUnless TooLong b k)) ≡ true → b ≡ true
 unfolding refuseUnless
 fit true k e = refl
@@ -295,7 +295,7 @@ more-at : (before : List Call) {c d : Call} (behind : List Call) → CallMore c 
 more-at [] behind m = each m (self-each behind)
 more-at (b ∷ before) behind m = each (call-self b) (more-at before behind m)
 
--- "More never takes away": two lists of calls on a new table, alike but in one call, which is accepted in both and has one item or one word more in the second
+-- the two lists are related place by place, and so are the answers
 pub more-never-takes-away : (before : List Call) (c d : Call) (behind : List Call) → OneMore c d →
     isAccepted (answerTo c (tableAfter before)) ≡ true → isAccepted (answerTo d (tableAfter before)) ≡ true →
     Each Keeps (answers (before ++ (c ∷ behind))) (answers (before ++ (d ∷ behind)))

@@ -1,4 +1,4 @@
--- Refusals, exactly: each call's first row. Assumes nothing.
+-- Claim 5: each call's tests stand in the order of the rows, and each test fails exactly where its row's condition holds. Assumes nothing.
 use mathlib.Core.Path.{_≡_, refl, sym, ap, subst, _∙_}
 use Prim.Native.Nat.{ℕ, zero, suc, _≤_, _<_}
 use native.Mathlib.Omega.{arith}
@@ -385,7 +385,6 @@ module _ (cs : List Call) where
   unfolding outcome
   verdict c = unless-verdict inputLong (textsFit c) (fittingOutcome c t) (is-long es c) (not-long es c) (fitting-verdict c)
 
--- "Refusals, exactly": a call that is refused with n has a first row whose condition holds, and that is n's; and a call that has a first row is refused with its number
 pub refused-by-first : (cs : List Call) (c : Call) (n : Refusal) → answerTo c (tableAfter cs) ≡ refused n → (r : Row) × First (history cs) c r × (refusalOf r ≡ n)
 unfolding answerTo
 refused-by-first cs c n e = answer-first (outcome c (tableAfter cs)) (verdict cs c) n e

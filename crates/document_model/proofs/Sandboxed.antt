@@ -1,4 +1,4 @@
--- "Sandboxed" as the calls and answers tell it is the mark of the document. Assumes nothing.
+-- "Sandboxed" by the history is the mark of the document. Assumes nothing.
 use mathlib.Core.Path.{_≡_, refl, sym, _∙_}
 use Prim.Native.Nat.{ℕ, suc, _<_}
 use native.Mathlib.Omega.{arith}

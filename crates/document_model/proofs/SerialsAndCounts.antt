@@ -1,4 +1,4 @@
--- Serials, counts, listings; and that a refused call changes nothing. Assumes nothing.
+-- Claim 3: by what each call does, and since the documents of the table are the loaded ones; and a refused call changes nothing. Assumes nothing.
 use mathlib.Core.Path.{_≡_, refl, sym, ap, subst, _∙_}
 use Prim.Native.Nat.{ℕ, _+_}
 use native.Mathlib.Omega.{arith}
@@ -18,9 +18,8 @@ use Rattle.document_model.proofs.Booleans.{either-way}
 use Rattle.document_model.proofs.Tables.{In, in-remaining, remaining-in, rising-one}
 use Rattle.document_model.proofs.Invariant.{Invariant, reachable}
 use Rattle.document_model.proofs.Agreement.{Agrees, agrees}
-use Rattle.document_model.proofs.Effects.{Effect, nothing-else, top-loaded, frame-loaded, all-removed, effect, counted}
+use Rattle.document_model.proofs.Effects.{table-append, Effect, nothing-else, top-loaded, frame-loaded, all-removed, effect, counted}
 use Rattle.document_model.proofs.SerialLists.{serialsWhere, all-where, removed-where, exactly-one, loaded-list, beneath-list, where-sound, where-whole, where-ascends-low}
-use Rattle.document_model.proofs.Forecasts.{after-more}
 
 -- ---- a refused call leaves every later answer as if it hadn't been made
 
@@ -36,8 +35,8 @@ pub refused-changes-nothing : (cs : List Call) (c : Call) (n : Refusal) (ds : Li
 unfolding leftBy
 refused-changes-nothing cs c n ds e =
     let same : tableLeft c (tableAfter cs) ≡ tableAfter cs = effect-same (tableAfter cs) (tableLeft c (tableAfter cs)) c (answerTo c (tableAfter cs)) n e (effect c (tableAfter cs)) in (
-      after-more cs (c ∷ ds) ∙ ap (leftBy tableLeft ds) same ∙ sym (after-more cs ds),
-      ap (answersBy answerTo tableLeft ds) (after-more cs (c ∷ []) ∙ same),
+      table-append cs (c ∷ ds) ∙ ap (leftBy tableLeft ds) same ∙ sym (table-append cs ds),
+      ap (answersBy answerTo tableLeft ds) (table-append cs (c ∷ []) ∙ same),
     )
 
 -- ---- serials
@@ -145,7 +144,7 @@ unfolding leftBy
 unload-answers cs s n l e x =
     let t = tableAfter cs in
     let u = tableAfter (cs ++ (unload s ∷ [])) in
-    let same : u ≡ tableLeft (unload s) t = after-more cs (unload s ∷ []) in
+    let same : u ≡ tableLeft (unload s) t = table-append cs (unload s ∷ []) in
     let w = removal t (tableLeft (unload s) t) s n (answerTo (unload s) t) e (effect (unload s) t) in
     let docs : u .docs ≡ remaining s (t .docs) = ap (λ (v : Table). v .docs) same ∙ w .left in
     w .many ∙ removed-where s (t .docs) ∙ ap length (exactly-one (λ k. LoadedIn (history cs) k × (LoadedIn (history (cs ++ (unload s ∷ []))) k → ⊥)) (serialsWhere (isAtOrBeneath s) (t .docs)) l (removed-list cs s docs) x)

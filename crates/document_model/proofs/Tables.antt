@@ -1,4 +1,4 @@
--- Documents in a list by serial: finding, keeping, what rises. Assumes nothing.
+-- Lists of documents in serial order: what `find` finds, what an unload leaves, and that a serial names one document. Assumes nothing.
 use mathlib.Core.Path.{_≡_, refl, ap, subst, _∙_}
 use Prim.Native.Nat.{ℕ, suc, _+_, _≤_, _<_}
 use native.Mathlib.Omega.{arith}
@@ -137,7 +137,7 @@ in-find lo (d ∷ ds) hi r c (there m) =
     rw (is-false (eqb (c .identity .serial) (d .identity .serial)) (λ t. omega (arith, eqb→eq (c .identity .serial) (d .identity .serial) t)))
     (in-find (suc (d .identity .serial)) ds hi (r .1) c m)
 
--- what goes and what is kept
+-- what an unload removes and what it leaves are all
 count-part : (s : ℕ) (d : Document) (ds : List Document) (b : Bool) → removedCount s ds + length (remaining s ds) ≡ length ds → pick b (suc (removedCount s ds)) (removedCount s ds) + length (pick b (remaining s ds) (d ∷ remaining s ds)) ≡ suc (length ds)
 unfolding pick
 count-part s d ds true e = omega arith
