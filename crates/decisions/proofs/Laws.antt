@@ -18,14 +18,14 @@ use Rattle.features.specs.declared.DefaultOf.{DefaultOf}
 use Rattle.origins.specs.Origins.{Origin}
 use Rattle.origins.specs.Origins.Origin.{tuple, opaque, fresh}
 use Rattle.origins.specs.Matching.{sameOrigin}
-use Rattle.origins.proofs.Laws.{tuple-self, opaque-self, fresh-left}
+use Rattle.origins.proofs.Laws.{tuple-self, opaque-self, fresh-left, fresh-right}
 use Rattle.allowlists.specs.Allowlists.{Allowlist, listAdmits, allows, someAdmits}
-use Rattle.allowlists.specs.Allowlists.Allowlist.{all}
+use Rattle.allowlists.specs.Allowlists.Allowlist.{all, listed}
 use Rattle.allowlists.specs.Answers.{admissionAs, admissionIn}
 use Rattle.allowlists.specs.Widening.{AsWide}
 use Rattle.allowlists.specs.Widening.AsWide.{neither, both}
 use Rattle.allowlists.specs.declared.Admission.{Admission}
-use Rattle.allowlists.proofs.Laws.{some-admits, none-admits, admission-back, allows-fresh, allows-opaque, as-wide-self}
+use Rattle.allowlists.proofs.Laws.{all-admits, some-admits, none-admits, admission-back, fresh-all, opaque-all, allows-fresh, allows-opaque, as-wide-self}
 use Rattle.declarations.specs.Declarations.{declaredAdmits}
 use Rattle.declarations.proofs.Laws.{declared-some, declared-none, declared-told, declared-fresh, declared-opaque}
 use Rattle.decisions.specs.Decisions.{Decision, decided, unlessDisabled, byList, byDefault, valueBy, inheritedBy, questionBy}
@@ -177,6 +177,43 @@ inherited-opaque c d l default container n h e =
     allows-opaque l container fresh n h (fresh-left (opaque n))
     (decided-yes (allows l container fresh (opaque n)) (unless-then d k (unless-then c (unlessDisabled d k) (unfold byList in (rw (some-admits l (sameOrigin container (opaque n)) (sameOrigin fresh (opaque n)) (opaque n)) at e)))))
 
+-- an opaque origin that isn't the container's, where the declared origin is fresh, inherits as a fresh one
+list-opaque : (l : Allowlist) (k : ℕ) → listAdmits l false false (opaque k) ≡ listAdmits l false false fresh
+list-opaque all k = all-admits false false (opaque k) ∙ sym (all-admits false false fresh)
+list-opaque (listed a b es) k =
+    not-so (listAdmits (listed a b es) false false (opaque k)) (λ e. opaque-all (listed a b es) k e) ∙ sym (not-so (listAdmits (listed a b es) false false fresh) (λ e. fresh-all (listed a b es) e))
+  where
+    not-so : (x : Bool) → (x ≡ true → listed a b es ≡ all) → x ≡ false
+    not-so true f = let e = f refl in clash cc
+    not-so false f = refl
+
+some-opaque : (d : Option Allowlist) (k : ℕ) → someAdmits d false false (opaque k) ≡ someAdmits d false false fresh
+some-opaque (some l) k = rw (some-admits l false false (opaque k), some-admits l false false fresh, list-opaque l k)
+some-opaque none k = none-admits false false (opaque k) ∙ sym (none-admits false false fresh)
+
+value-as-fresh : (i : Decision) (d : Option Allowlist) (own : Origin) (k : ℕ) → sameOrigin own (opaque k) ≡ false → value i d own (opaque k) ≡ value i d own fresh
+unfolding value
+value-as-fresh i d own k h = ap (valueBy i) (sym (declared-told d false own (opaque k) (sym h)) ∙ some-opaque d k ∙ declared-told d false own fresh (sym (fresh-right own)))
+
+framed-as-fresh : (c d : Decision) (l : Option Allowlist) (default : Option Default) (container : Origin) (k : ℕ) → sameOrigin container (opaque k) ≡ false →
+    inheritedFramed c d l default container fresh (opaque k) ≡ inheritedFramed c d l default container fresh fresh
+unfolding inheritedFramed
+framed-as-fresh c d l default container k h = rw (h, fresh-right container, fresh-left (opaque k), fresh-left fresh, some-opaque l k)
+
+pub inherited-as-fresh : (p : Policy) (f : Frame) (k : ℕ) → f .declared ≡ fresh → sameOrigin (p .own) (opaque k) ≡ false → (n : ℕ) → inheritedIn p f (opaque k) n ≡ inheritedIn p f fresh n
+unfolding inheritedIn valueIn
+inherited-as-fresh p f k e h n = rw (e, value-as-fresh (p .inherited n) (p .declared n) (p .own) k h) (framed-as-fresh _ _ (f .allowed n) (defaultOf n) (p .own) k h)
+
+-- *Value* where nothing is declared is what is inherited
+value-none : (i : Decision) (own o : Origin) → value i none own o ≡ i
+unfolding value valueBy byList unlessDisabled
+value-none disabled own o = refl
+value-none enabled own o = rw (declared-none own o)
+
+pub value-undeclared : (p : Policy) (n : ℕ) (o : Origin) → p .declared n ≡ none → valueIn p n o ≡ p .inherited n
+unfolding valueIn
+value-undeclared p n o e = rw e (value-none (p .inherited n) (p .own) o)
+
 -- without an entry only the default `*` admits an origin that is not the container's
 default-star : (default : Option Default) → byDefault default false ≡ enabled → default ≡ some star
 unfolding byDefault decided
@@ -283,6 +320,14 @@ mask-at p n h = rw (mask-bit p featureCount n h) (bit-decides (p n))
 pub mask-past : (p : ℕ → Decision) (n : ℕ) → featureCount ≤ n → decisionAt (maskOf p) n ≡ disabled
 mask-past p n h = bits-past (maskOf p) n featureCount (mask-lt p featureCount) h
 
+-- a bit is clear where its decision is Disabled
+pub mask-disabled : (p : ℕ → Decision) (n : ℕ) → p n ≡ disabled → decisionAt (maskOf p) n ≡ disabled
+mask-disabled p n h = go (ltb n featureCount) refl
+  where
+    go : (b : Bool) → ltb n featureCount ≡ b → decisionAt (maskOf p) n ≡ disabled
+    go true e = let low : n < featureCount = omega (arith, ltb-true) in mask-at p n low ∙ h
+    go false e = let high : featureCount ≤ n = omega (arith, ltb-false) in mask-past p n high
+
 pub mask-below : (p : ℕ → Decision) → maskOf p < 2 ^ featureCount
 mask-below p = mask-lt p featureCount
 
@@ -340,6 +385,16 @@ forecast-at p f n h = mask-at (λ k. inheritedIn p f (f .declared) k) n h
 pub forecast-past : (p : Policy) (f : Frame) (n : ℕ) → featureCount ≤ n → decisionAt (forecast p f) n ≡ disabled
 unfolding forecast
 forecast-past p f n h = mask-past (λ k. inheritedIn p f (f .declared) k) n h
+
+-- a number of what is inherited at the declared origin is the forecast
+pub forecast-is : (p : Policy) (f : Frame) (q : ℕ → Decision) → ((n : ℕ) → n < featureCount → q n ≡ inheritedIn p f (f .declared) n) → maskOf q ≡ forecast p f
+unfolding forecast
+forecast-is p f q h = mask-same q (λ n. inheritedIn p f (f .declared) n) h
+
+-- where nothing is declared, what is inherited is enabled at the own origin
+pub enabled-undeclared : (p : Policy) → sameOrigin (p .own) (p .own) ≡ true → ((n : ℕ) → p .declared n ≡ none) → enabledMask p ≡ maskOf (p .inherited)
+unfolding enabledMask
+enabled-undeclared p own h = mask-same (λ n. questionIn p n (p .own)) (p .inherited) (λ n low. own-agrees-in p n own ∙ value-undeclared p n (p .own) (h n))
 
 -- no bit of either falls with a wider policy
 pub enabled-stays : (p q : Policy) → WiderPolicy p q → (n : ℕ) → Stays (decisionAt (enabledMask p) n) (decisionAt (enabledMask q) n)

@@ -1,0 +1,111 @@
+-- Demand 3 and document 01's sentences on the table: five claims about every list of calls on a new table, refused calls included. They are proved in `proofs/Claims`.
+use mathlib.Core.Path.{_≡_}
+use Prim.Native.Nat.{ℕ, _+_, _<_, _≤_}
+use mathlib.Core.Bool.{Bool, true, false}
+use mathlib.Core.List.{List, [], _∷_, _++_}
+use lib.ListN.{length, drop}
+use Rattle.limits.specs.declared.Refusal.{Refusal}
+use Rattle.limits.specs.declared.Refusal.the-variants.{Sandbox}
+use Rattle.features.specs.Features.{featureCount}
+use Rattle.origins.specs.Origins.{originOf, nullText}
+use Rattle.dictionaries.specs.Added.{OneItemMore}
+use Rattle.containers.specs.Attributes.{Attributes}
+use Rattle.containers.specs.Widening.{WordMore}
+use Rattle.decisions.specs.Decisions.{Decision}
+use Rattle.decisions.specs.Decisions.Decision.{disabled}
+use Rattle.decisions.specs.Masks.{decisionAt}
+use Rattle.decisions.specs.Widening.{Stays}
+use Rattle.document_model.specs.Runs.{Each}
+use Rattle.document_model.specs.Model.{Text, isGoodOrigin, valuesFrom, Call, topLoad, framedLoad, unload, question, enabledFeatures, listing, forecastOf, Answer, refused, loaded, removed, decision, features, serials, answers, answerAfter, answersAfter}
+use Rattle.document_model.specs.History.{BeneathIn, LoadedIn, history, acceptedLoads, unloadSum, given, Exactly, AreLoaded, AreBeneath}
+use Rattle.document_model.specs.Refusals.{Row, refusalOf, First}
+
+-- ---- 1. Disabled flows down
+
+-- "if after it a loaded document is Disabled for a feature at its own origin, every document beneath it is Disabled for it at every origin, then and after any further calls, while both stay loaded":
+-- the document d after the calls cs, the document e after the further calls ds, which may be none. A document that is loaded and beneath d is only while d is loaded
+abbrev pub DisabledFlowsDown : Type 0
+DisabledFlowsDown =
+    (cs ds : List Call) (d e f : ℕ) → answerAfter cs (question d f []) ≡ decision disabled
+    → LoadedIn (history (cs ++ ds)) e → BeneathIn (history (cs ++ ds)) e d
+    → (o : Text) → isGoodOrigin (originOf o) ≡ true → answerAfter (cs ++ ds) (question e f o) ≡ decision disabled
+
+-- ---- 2. More never takes away
+
+-- "The changed call is a load or a forecast": the second call has one item more in its header, or one word more in its allow attribute
+pub data OneMore : Call → Call → Type 0 where
+  item-top : {h g o : Text} → OneItemMore h g → OneMore (topLoad h o) (topLoad g o)
+  item-framed : {c : ℕ} {h g o : Text} {a : Attributes} → OneItemMore h g → OneMore (framedLoad c h o a) (framedLoad c g o a)
+  word-framed : {c : ℕ} {h o : Text} {a b : Attributes} → WordMore a b → OneMore (framedLoad c h o a) (framedLoad c h o b)
+  word-forecast : {c : ℕ} {a b : Attributes} → WordMore a b → OneMore (forecastOf c a) (forecastOf c b)
+
+abbrev pub isAccepted : Answer → Bool
+isAccepted (refused n) = false
+isAccepted (loaded s m) = true
+isAccepted (removed n) = true
+isAccepted (decision d) = true
+isAccepted (features m) = true
+isAccepted (serials n run) = true
+
+-- the answers at one place of the two runs: equal ("Serials, unload answers and listings", malformed notes, refusals); or
+-- "an Enabled of the first run is Enabled in the second"; or "each bit set in a number of enabled features or a forecast of the first is set in the second"
+pub data Keeps : Answer → Answer → Type 0 where
+  equal : (a : Answer) → Keeps a a
+  enabled-stays : {d e : Decision} → Stays d e → Keeps (decision d) (decision e)
+  bits-stay : {m n : ℕ} → ((f : ℕ) → Stays (decisionAt m f) (decisionAt n f)) → Keeps (features m) (features n)
+
+-- "take any two such lists, alike except in one call, accepted in both"
+abbrev pub MoreNeverTakesAway : Type 0
+MoreNeverTakesAway =
+    (before : List Call) (c d : Call) (behind : List Call) → OneMore c d
+    → isAccepted (answerAfter before c) ≡ true → isAccepted (answerAfter before d) ≡ true
+    → Each Keeps (answers (before ++ (c ∷ behind))) (answers (before ++ (d ∷ behind)))
+
+-- ---- 3. Serials, counts, listings
+
+-- what a listing answers for the serials l: how many, and the lent run afterwards: "ascending, written into a lent run of 32-bit numbers, places after them unchanged"
+pub record Listed (n : ℕ) (run′ run l : List ℕ) : Type 0 where
+  pub count : n ≡ length l
+  pub run-afterwards : run′ ≡ l ++ drop (length l) run
+
+pub record SerialsAndCounts : Type 0 where
+  -- "Each accepted load gives the next serial, from 1; serials are never used again."
+  pub serials-in-order : (cs : List Call) → given (answers cs) ≡ valuesFrom (λ n. n) 1 (length (given (answers cs)))
+  -- "The number loaded equals accepted loads minus the sum of the unload answers."
+  pub number-loaded : (cs : List Call) (l : List ℕ) → AreLoaded (history cs) l → length l + unloadSum (history cs) ≡ acceptedLoads (history cs)
+  -- "the serials beneath a document, ascending"
+  pub listing-exactly : (cs : List Call) (s n : ℕ) (run run′ l : List ℕ) → answerAfter cs (listing s run) ≡ serials n run′ → AreBeneath (history cs) s l → Listed n run′ run l
+  -- "Unloading removes a document and all beneath it and answers how many": "it must equal the documents that went", those loaded before and not after
+  pub unload-answers : (cs : List Call) (s n : ℕ) (l : List ℕ) → answerAfter cs (unload s) ≡ removed n
+      → Exactly (λ e. LoadedIn (history cs) e × (LoadedIn (history (cs ++ (unload s ∷ []))) e → ⊥)) l → n ≡ length l
+  -- and there are such lists
+  pub some-loaded : (cs : List Call) → (l : List ℕ) × AreLoaded (history cs) l
+  pub some-beneath : (cs : List Call) (s : ℕ) → (l : List ℕ) × AreBeneath (history cs) s l
+
+-- ---- 4. A forecast comes true
+
+-- the origin text with which a frame's document arrives at the declared origin: the src text; or `null` where the load with the src text is refused with 5, and so the declared origin is fresh
+pub data AtDeclared (cs : List Call) (c : ℕ) (a : Attributes) : Text → Type 0 where
+  as-src : AtDeclared cs c a (a .src)
+  as-null : answerAfter cs (framedLoad c [] (a .src) a) ≡ refused Sandbox → AtDeclared cs c a nullText
+
+pub record ForecastComesTrue : Type 0 where
+  -- "A *forecast* is what a frame would inherit at its declared origin": a load right after it with the same container and attributes, at the declared origin and with an empty header,
+  -- has exactly the forecast's features enabled
+  pub comes-true : (cs : List Call) (c : ℕ) (o : Text) (a : Attributes) (m s : ℕ) (malformed : Bool)
+      → answerAfter cs (forecastOf c a) ≡ features m
+      → AtDeclared cs c a o
+      → answerAfter (cs ++ (forecastOf c a ∷ [])) (framedLoad c [] o a) ≡ loaded s malformed
+      → answerAfter (cs ++ (forecastOf c a ∷ framedLoad c [] o a ∷ [])) (enabledFeatures s) ≡ features m
+  -- "the features enabled at a document's own origin as one 32-bit number, bit n for feature n and no other bit"
+  pub bit-answers : (cs : List Call) (s m n : ℕ) → answerAfter cs (enabledFeatures s) ≡ features m → n < featureCount → answerAfter cs (question s n []) ≡ decision (decisionAt m n)
+  pub no-other-bit : (cs : List Call) (s m n : ℕ) → answerAfter cs (enabledFeatures s) ≡ features m → featureCount ≤ n → decisionAt m n ≡ disabled
+
+-- ---- 5. Refusals, exactly
+
+pub record RefusalsExactly : Type 0 where
+  -- "Given exactly when (and no earlier row of the order applies)"
+  pub refused-by-first : (cs : List Call) (c : Call) (n : Refusal) → answerAfter cs c ≡ refused n → (r : Row) × First (history cs) c r × (refusalOf r ≡ n)
+  pub first-is-refused : (cs : List Call) (c : Call) (r : Row) → First (history cs) c r → answerAfter cs c ≡ refused (refusalOf r)
+  -- "A refusal returns only its number and changes nothing."
+  pub refused-changes-nothing : (cs : List Call) (c : Call) (n : Refusal) (ds : List Call) → answerAfter cs c ≡ refused n → answersAfter (cs ++ (c ∷ [])) ds ≡ answersAfter cs ds

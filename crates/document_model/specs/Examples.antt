@@ -1,0 +1,176 @@
+-- Runs on a new table, by computation: the claims speak of something, and a wrong definition would break a row.
+use Prim.Native.Nat.{ℕ, zero, suc}
+use Prim.Native.String.{String}
+use mathlib.Core.Path.{_≡_, refl}
+use mathlib.Core.Bool.{Bool, true, false}
+use mathlib.Core.List.{List, [], _∷_, _++_, map}
+use native.Mathlib.Omega.{arith}
+use Rattle.ascii.specs.Literals.{text}
+use Rattle.limits.specs.declared.Refusal.the-variants.{NotLoaded, NoSuchFeature, BadOrigin, TooLong, Sandbox, Full, Spent, Small}
+use Rattle.items.specs.Items.Item.{token, string}
+use Rattle.dictionaries.specs.Added.{OneItemMore}
+use Rattle.pieces.specs.OneWordMore.{OneWordMore}
+use Rattle.containers.specs.Attributes.{Attributes}
+use Rattle.containers.specs.Policies.{isSemicolon}
+use Rattle.decisions.specs.Decisions.Decision.{disabled, enabled}
+use Rattle.document_model.specs.Runs.{answersBy}
+use Rattle.document_model.specs.Model.{Text, Table, Call, topLoad, framedLoad, unload, question, enabledFeatures, listing, forecastOf, Answer, refused, loaded, removed, decision, features, serials, answerTo, tableLeft, tableAfter, answers}
+use Rattle.document_model.specs.Computing.{computing}
+
+abbrev pub camera : ℕ
+camera = 0
+
+-- a frame with src https://b.example and no sandbox attribute, by its allow attribute
+abbrev pub allowing : String → Attributes
+allowing allow = record { allow = text allow; allowfullscreen = false; hasSandbox = false; sandbox = []; src = text "https://b.example" }
+
+-- the same with an empty sandbox attribute
+abbrev pub sandboxing : String → Attributes
+sandboxing allow = record { allow = text allow; allowfullscreen = false; hasSandbox = true; sandbox = []; src = text "https://b.example" }
+
+-- a run, and the answers that it must give
+record Run : Type 0 where
+  calls : List Call
+  expected : List Answer
+
+-- ---- claim 1: a document that is Disabled for camera with two levels beneath it, and two documents that aren't beneath
+
+abbrev pub loads : List Call
+loads =
+    topLoad (text "camera=()") (text "https://a.example")
+    ∷ framedLoad 1 [] (text "https://b.example") (allowing "camera")
+    ∷ framedLoad 2 (text "camera=*") (text "https://c.example") (allowing "camera *")
+    ∷ topLoad [] (text "https://d.example")
+    ∷ framedLoad 4 [] (text "null") (allowing "")
+    ∷ []
+
+-- an unload and a refusal in between
+abbrev pub between : List Call
+between = unload 5 ∷ question 5 camera [] ∷ []
+
+abbrev flows : Run
+flows = record {
+  calls =
+    loads ++ (question 1 camera [] ∷ between)
+    ++ (question 1 camera [] ∷ question 2 camera (text "https://b.example") ∷ question 3 camera [] ∷ question 3 camera (text "https://a.example") ∷ question 4 camera [] ∷ listing 1 (7 ∷ 7 ∷ 7 ∷ []) ∷ []);
+  expected =
+    loaded 1 false ∷ loaded 2 false ∷ loaded 3 false ∷ loaded 4 false ∷ loaded 5 false ∷ decision disabled ∷ removed 1 ∷ refused NotLoaded
+    ∷ decision disabled ∷ decision disabled ∷ decision disabled ∷ decision disabled ∷ decision enabled ∷ serials 2 (2 ∷ 3 ∷ 7 ∷ []) ∷ [];
+}
+
+-- ---- claim 2: one item more, and one word more, each adds an Enabled in a grandchild
+
+abbrev pub fewerItems : Text
+fewerItems = text "camera=(self)"
+
+abbrev pub moreItems : Text
+moreItems = text "camera=(self \"https://b.example\")"
+
+pub item-added : OneItemMore fewerItems moreItems
+unfolding computing
+item-added = record { before = []; behind = []; key = text "camera"; front = token (text "self") ∷ []; back = []; item = string (text "https://b.example"); first = refl; second = refl }
+
+abbrev pub fewerWords : String
+fewerWords = "camera https://c.example"
+
+abbrev pub moreWords : String
+moreWords = "camera https://c.example https://b.example"
+
+pub word-added : OneWordMore isSemicolon (text fewerWords) (text moreWords)
+unfolding computing
+word-added = record { earlier = []; later = []; feature = text "camera"; front = text "https://c.example" ∷ []; back = []; one = omega arith; word = text "https://b.example"; first = refl; second = refl }
+
+-- the calls past the first, told the allow attribute of the framed load among them; and all
+abbrev pub frames : String → List Call
+frames allow = framedLoad 1 [] (text "https://b.example") (allowing allow) ∷ framedLoad 2 [] [] (allowing "") ∷ question 3 camera [] ∷ enabledFeatures 3 ∷ forecastOf 1 (allowing allow) ∷ []
+
+abbrev pub family : Text → String → List Call
+family header allow = topLoad header (text "https://a.example") ∷ frames allow
+
+abbrev fewer : List Answer
+fewer = loaded 1 false ∷ loaded 2 false ∷ loaded 3 false ∷ decision disabled ∷ features 64908 ∷ features 64908 ∷ []
+
+abbrev more : List Answer
+more = loaded 1 false ∷ loaded 2 false ∷ loaded 3 false ∷ decision enabled ∷ features 64909 ∷ features 64909 ∷ []
+
+-- ---- all runs
+
+abbrev many : ℕ → List Call
+many zero = []
+many (suc n) = topLoad [] (text "null") ∷ many n
+
+abbrev long : ℕ → Text
+long zero = []
+long (suc n) = 32 ∷ long n
+
+rows : List Run
+rows =
+    flows
+    ∷ record { calls = family fewerItems "camera"; expected = fewer }
+    ∷ record { calls = family moreItems "camera"; expected = more }
+    ∷ record { calls = family [] fewerWords; expected = fewer }
+    ∷ record { calls = family [] moreWords; expected = more }
+    -- claim 4: a load that arrives at the declared origin inherits what was forecast, and one that arrives elsewhere something else
+    ∷ record {
+      calls = topLoad [] (text "https://a.example") ∷ forecastOf 1 (allowing "camera") ∷ framedLoad 1 [] (text "https://c.example") (allowing "camera") ∷ enabledFeatures 2 ∷ framedLoad 1 [] (text "https://b.example") (allowing "camera") ∷ enabledFeatures 3 ∷ [];
+      expected = loaded 1 false ∷ features 64909 ∷ loaded 2 false ∷ features 64908 ∷ loaded 3 false ∷ features 64909 ∷ [];
+    }
+    -- unloading removes all beneath
+    ∷ record {
+      calls = topLoad [] (text "https://a.example") ∷ framedLoad 1 [] [] (allowing "") ∷ framedLoad 2 [] [] (allowing "") ∷ unload 1 ∷ enabledFeatures 3 ∷ [];
+      expected = loaded 1 false ∷ loaded 2 false ∷ loaded 3 false ∷ removed 3 ∷ refused NotLoaded ∷ [];
+    }
+    -- serials are never used again
+    ∷ record {
+      calls = topLoad [] (text "null") ∷ unload 1 ∷ topLoad [] (text "null") ∷ unload 1 ∷ [];
+      expected = loaded 1 false ∷ removed 1 ∷ loaded 2 false ∷ refused NotLoaded ∷ [];
+    }
+    -- a document loaded with `null` isn't at its container's origin, one loaded with the empty text is, at an opaque one too
+    ∷ record {
+      calls = topLoad [] (text "null") ∷ framedLoad 1 [] (text "null") (allowing "") ∷ question 2 camera [] ∷ framedLoad 1 [] [] (allowing "") ∷ question 3 camera [] ∷ question 3 camera (text "null") ∷ [];
+      expected = loaded 1 false ∷ loaded 2 false ∷ decision disabled ∷ loaded 3 false ∷ decision enabled ∷ decision disabled ∷ [];
+    }
+    -- the order of the refusals
+    ∷ record {
+      calls =
+        question 9 17 (text "https://a.example:443")
+        ∷ question 9 17 []
+        ∷ question 9 16 []
+        ∷ topLoad (long 1025) []
+        ∷ topLoad (long 1024) []
+        ∷ framedLoad 9 [] (text "null") (record { allow = []; allowfullscreen = false; hasSandbox = false; sandbox = long 1025; src = text "x" })
+        ∷ framedLoad 9 [] (text "null") (record { allow = []; allowfullscreen = false; hasSandbox = false; sandbox = []; src = text "x" })
+        ∷ framedLoad 9 [] (text "https://b.example") (sandboxing "")
+        ∷ [];
+      expected = refused BadOrigin ∷ refused NoSuchFeature ∷ refused NotLoaded ∷ refused TooLong ∷ refused BadOrigin ∷ refused TooLong ∷ refused BadOrigin ∷ refused NotLoaded ∷ [];
+    }
+    -- sandboxed documents, and runs that are too short
+    ∷ record {
+      calls =
+        topLoad (text "camera") (text "https://a.example")
+        ∷ framedLoad 1 [] (text "https://b.example") (sandboxing "")
+        ∷ framedLoad 1 (text "camera=(") (text "null") (sandboxing "")
+        ∷ framedLoad 2 [] [] (allowing "")
+        ∷ listing 1 []
+        ∷ listing 2 []
+        ∷ [];
+      expected = loaded 1 false ∷ refused Sandbox ∷ loaded 2 true ∷ refused Sandbox ∷ refused Small ∷ serials 0 [] ∷ [];
+    }
+    -- the seventeenth
+    ∷ record { calls = many 17; expected = map (λ n. loaded n false) (1 ∷ 2 ∷ 3 ∷ 4 ∷ 5 ∷ 6 ∷ 7 ∷ 8 ∷ 9 ∷ 10 ∷ 11 ∷ 12 ∷ 13 ∷ 14 ∷ 15 ∷ 16 ∷ []) ++ (refused Full ∷ []) }
+    ∷ []
+
+rows-right : map (λ r. answers (r .calls)) rows ≡ map (λ r. r .expected) rows
+unfolding computing rows
+rows-right = refl
+
+-- ---- refusal 7, which no list of calls that can be written out gets: from a table with fifteen documents whose next serial is 4,294,967,295
+
+abbrev late : Table
+late = record { docs = tableAfter (many 15) .docs; next = 4294967295 }
+
+-- that serial is given, the next load gets 6 on the full table and else 7, and questions still answer
+late-right : answersBy answerTo tableLeft (topLoad [] (text "null") ∷ topLoad [] (text "null") ∷ unload 1 ∷ topLoad [] (text "null") ∷ question 4294967295 camera [] ∷ []) late
+    ≡ loaded 4294967295 false ∷ refused Full ∷ removed 1 ∷ refused Spent ∷ decision enabled ∷ []
+unfolding computing
+late-right = refl
