@@ -3,3 +3,5 @@ pub mod Masks
 pub mod Policies
 pub mod Widening
 pub mod Answers
+pub mod Computing
+pub mod Examples

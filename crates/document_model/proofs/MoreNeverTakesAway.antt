@@ -13,7 +13,7 @@ use Rattle.limits.specs.declared.Refusal.{Refusal}
 use Rattle.limits.specs.declared.Refusal.the-variants.{NotLoaded, NoSuchFeature, BadOrigin, TooLong, Sandbox, Full, Spent, Small}
 use Rattle.features.specs.Features.{featureCount}
 use Rattle.origins.specs.Origins.{Origin, OriginSaid, originOf}
-use Rattle.dictionaries.specs.Added.{OneItemMore}
+use Rattle.dictionaries.specs.OneItemMore.{OneItemMore}
 use Rattle.allowlists.specs.Allowlists.{Allowlist}
 use Rattle.allowlists.specs.Widening.{AsWide}
 use Rattle.allowlists.specs.Widening.AsWide.{neither}

@@ -8,7 +8,7 @@ use Rattle.limits.specs.declared.Refusal.{Refusal}
 use Rattle.limits.specs.declared.Refusal.the-variants.{Sandbox}
 use Rattle.features.specs.Features.{featureCount}
 use Rattle.origins.specs.Origins.{originOf, nullText}
-use Rattle.dictionaries.specs.Added.{OneItemMore}
+use Rattle.dictionaries.specs.OneItemMore.{OneItemMore}
 use Rattle.containers.specs.Attributes.{Attributes}
 use Rattle.containers.specs.Widening.{WordMore}
 use Rattle.decisions.specs.Decisions.{Decision}

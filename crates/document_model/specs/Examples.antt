@@ -8,7 +8,7 @@ use native.Mathlib.Omega.{arith}
 use Rattle.ascii.specs.Literals.{text}
 use Rattle.limits.specs.declared.Refusal.the-variants.{NotLoaded, NoSuchFeature, BadOrigin, TooLong, Sandbox, Full, Spent, Small}
 use Rattle.items.specs.Items.Item.{token, string}
-use Rattle.dictionaries.specs.Added.{OneItemMore}
+use Rattle.dictionaries.specs.OneItemMore.{OneItemMore}
 use Rattle.pieces.specs.OneWordMore.{OneWordMore}
 use Rattle.containers.specs.Attributes.{Attributes}
 use Rattle.containers.specs.Policies.{isSemicolon}
