@@ -104,6 +104,12 @@ unfolding sourceMeaning
 source-is (some y) e k = let q : y ≡ e = cc in ap some q
 source-is none e k = clash cc
 
+-- and never means the src-origin
+pub source-no-src : (x : Option SourceExpression) → sourceMeaning x ≡ src → ⊥
+unfolding sourceMeaning
+source-no-src (some y) e = clash cc
+source-no-src none e = clash cc
+
 -- whether a meaning admits, case by case
 module _ (x : List ℕ) (m : MeaningRange) (a b : Bool) (o : Origin) where
   pub admits-star : m ≡ range.All → true ≡ meaningAdmits (meaningIn x m) a b o

@@ -21,7 +21,7 @@ use Rattle.allowlists.specs.Allowlists.Meaning.{star, self, src, source, nothin
 use Rattle.allowlists.specs.Answers.{meaningAs, meaningIn}
 use Rattle.allowlists.specs.declared.MeaningRange.{MeaningRange}
 use Rattle.allowlists.specs.declared.MeaningRange.the-variants as range
-use Rattle.allowlists.proofs.Meanings.{meaning-in, source-is}
+use Rattle.allowlists.proofs.Meanings.{meaning-in, source-is, source-no-src}
 use Rattle.declarations.specs.Declarations.{tokenMeaning, itemMeaning}
 
 -- a token, test by test
@@ -65,11 +65,6 @@ token-means t P x y z = go (sameBytes t (text "*")) (sameBytes t (text "self"))
 
 token-no-source : (t : List ℕ) (y : SourceExpression) → tokenMeaning t ≡ source y → ⊥
 token-no-source t y = token-means t (λ m. m ≡ source y → ⊥) (λ e. clash cc) (λ e. clash cc) (λ e. clash cc)
-
-source-no-src : (x : Option SourceExpression) → sourceMeaning x ≡ src → ⊥
-unfolding sourceMeaning
-source-no-src (some y) e = clash cc
-source-no-src none e = clash cc
 
 -- an item that means an expression is a string that is the expression
 pub source-item : (x : Item) (y : SourceExpression) → itemMeaning x ≡ source y → (t : List ℕ) × (x ≡ string t) × (expressionOf t ≡ some y)
