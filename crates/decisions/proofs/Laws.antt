@@ -406,3 +406,25 @@ pub forecast-stays : (p q : Policy) (f g : Frame) → WiderPolicy p q → WiderF
 unfolding forecast
 forecast-stays p q f g wide frames n =
     mask-stays (λ k. inheritedIn p f (f .declared) k) (λ k. inheritedIn q g (g .declared) k) (λ k low. subst (λ (o : Origin). Stays (inheritedIn p f (f .declared) k) (inheritedIn q g o k)) (frames .declared) (inherited-in-stays p q wide f g frames (f .declared) k)) n
+
+-- the decisions of a policy, by its parts
+module _ (p : Policy) (n : ℕ) (o : Origin) where
+  pub value-parts : valueIn p n o ≡ value (p .inherited n) (p .declared n) (p .own) o
+  unfolding valueIn
+  value-parts = refl
+
+  pub question-parts : questionIn p n o ≡ question (p .inherited n) (p .declared n) (defaultOf n) (p .own) o
+  unfolding questionIn
+  question-parts = refl
+
+  pub inherited-parts : (f : Frame) → inheritedIn p f o n ≡ inheritedFramed (valueIn p n (p .own)) (valueIn p n o) (f .allowed n) (defaultOf n) (p .own) (f .declared) o
+  unfolding inheritedIn
+  inherited-parts f = refl
+
+pub enabled-parts : (p : Policy) → enabledMask p ≡ maskOf (λ n. questionIn p n (p .own))
+unfolding enabledMask
+enabled-parts p = refl
+
+pub forecast-parts : (p : Policy) (f : Frame) → forecast p f ≡ maskOf (inheritedIn p f (f .declared))
+unfolding forecast
+forecast-parts p f = refl

@@ -8,3 +8,5 @@ pub use Rattle.document_model.proofs.Effects.{Effect, nothing-else, top
 pub use Rattle.document_model.proofs.Invariant.{Invariant, reachable}
 -- the documents of the table are the loaded ones, and the serials above each are those that it is beneath
 pub use Rattle.document_model.proofs.Agreement.{Agrees, agrees}
+-- the first values of a function
+pub use Rattle.document_model.proofs.Values.{values-at, values-past, values-length, values-same, values-snoc}
