@@ -3,13 +3,21 @@ use Prim.Native.Nat.{ℕ}
 use mathlib.Core.Path.{_≡_}
 use mathlib.Core.Bool.{Bool, false}
 use lib.ListN.{take}
-use Rattle.features.specs.Features.{featureCount}
+use Rattle.features.specs.Features.{featureCount, defaultOf}
 use Rattle.origins.specs.Origins.{Origin}
 use Rattle.origins.specs.Answers.{originIn}
-use Rattle.allowlists.specs.Allowlists.{someAdmits}
+use Rattle.allowlists.specs.Allowlists.{Allowlist, someAdmits}
 use Rattle.allowlists.specs.Answers.{admissionAs}
 use Rattle.allowlists.specs.declared.Admission.{Admission}
-use Rattle.decisions.specs.Policies.{Policy}
+use Rattle.decisions.specs.Decisions.{Decision}
+use Rattle.decisions.specs.Masks.{maskOf}
+use Rattle.decisions.specs.Policies.{Policy, Frame, inheritedFramed, valueIn, inheritedIn}
+use Rattle.containers.specs.Policies.{allowPolicy}
+use Rattle.containers.specs.Answers.{declaredIn as declaredOriginIn}
+use Rattle.containers.specs.declared.DeclaredOrigin.{DeclaredOrigin}
+use Rattle.origins.specs.Matching.{sameOrigin}
+use mathlib.Core.List.{List}
+use mathlib.Core.Option.{Option, some, none}
 use Rattle.document_model.specs.Model.{Document as ModelDocument, valuesFrom, policyOf}
 use Rattle.settled.specs.Settled.{declaredIn}
 use Rattle.document_records.specs.declared.Document.{Document}
@@ -34,3 +42,16 @@ recordPolicy d = policyOf (documentIn d)
 -- what the declared list answers for an origin, told whether it is the document's own
 pub record DeclaredAnswers (d : Document) (n : ℕ) (same : Bool) (o : Origin) (r : Admission) : Type 0 where
   pub is : r ≡ admissionAs (someAdmits (recordPolicy d .declared n) same false o)
+
+-- whether an origin is the one that a frame's declared origin names, beside the container's origin and src
+pub record IsDeclaredOrigin (container : Origin) (declared : DeclaredOrigin) (src : List ℕ) (o : Origin) (r : Bool) : Type 0 where
+  pub says : (x : Origin) → declaredOriginIn src container declared ≡ some x → r ≡ sameOrigin x o
+  pub none-declared : declaredOriginIn src container declared ≡ none → r ≡ false
+
+-- *Inherited* of a feature, told whether the arriving origin is the declared one: for every declared origin of which that is so
+pub record Inherits (p : Policy) (n : ℕ) (allowed : Option Allowlist) (isDeclared : Bool) (o : Origin) (r : Decision) : Type 0 where
+  pub says : (declared : Origin) → isDeclared ≡ sameOrigin declared o → r ≡ inheritedFramed (valueIn p n (p .own)) (valueIn p n o) allowed (defaultOf n) (p .own) declared o
+
+-- the same of every feature, for every frame with that allow attribute and allowfullscreen
+pub record IsInherited (p : Policy) (allow : List ℕ) (mark isDeclared : Bool) (o : Origin) (r : ℕ) : Type 0 where
+  pub says : (f : Frame) → ((n : ℕ) → f .allowed n ≡ allowPolicy allow mark n) → isDeclared ≡ sameOrigin (f .declared) o → r ≡ maskOf (inheritedIn p f o)

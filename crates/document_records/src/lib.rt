@@ -2,11 +2,15 @@
 ghost use mathlib.Core.Path.{_≡_};
 ghost use Rattle.origins.specs.Matching.{sameOrigin};
 ghost use Rattle.origins.specs.Answers.{originIn};
+ghost use Rattle.containers.specs.Answers.{policyIn};
 ghost use Rattle.decisions.specs.Answers.{decisionIn};
 ghost use Rattle.decisions.specs.Policies.{valueIn, questionIn, enabledMask};
-ghost use Rattle.document_records.specs.Records.{ownOrigin, recordPolicy, DeclaredAnswers};
+ghost use Rattle.document_records.specs.Records.{ownOrigin, recordPolicy, DeclaredAnswers, IsDeclaredOrigin, Inherits, IsInherited};
 use allowlists::Admission;
+use containers::ContainerPolicy;
+use containers::DeclaredOrigin;
 use decisions::Decision;
+use decisions::Framed;
 use limits::DOCUMENTS;
 use limits::TEXT_BYTES;
 use origins::OriginRange;
@@ -85,6 +89,74 @@ pub fn enabled(d: Document) -> u32
     let mut i: usize = 0;
     while i < features::COUNT {
         all[i] = own_question(d, i as u32);
+        i += 1;
+    }
+    decisions::mask(all)
+}
+
+// Whether an origin is the declared one of a frame in the document, by what src says.
+pub fn is_declared(
+    c: Document,
+    declared: DeclaredOrigin,
+    src: &[u8],
+    t: &[u8],
+    o: OriginRange,
+) -> bool
+    ensures { λ r. ⌜ IsDeclaredOrigin (ownOrigin c) declared (now (src .entry)) (originIn (now (t .entry)) o) r ⌝ }
+{
+    match declared {
+        DeclaredOrigin::Fresh => false,
+        DeclaredOrigin::Container => is_own(c, t, o),
+        DeclaredOrigin::Src(r) => origins::same_origin(src, OriginRange::Tuple(r), t, o),
+        DeclaredOrigin::NotAnOrigin => false,
+    }
+}
+
+// *Inherited* of a feature for an origin that arrives in a frame of the document; it is the declared one.
+fn inherits(
+    c: Document,
+    policy: ContainerPolicy,
+    n: u32,
+    allow: &[u8],
+    declared: bool,
+    t: &[u8],
+    o: OriginRange,
+) -> Decision
+    ensures { λ r. ⌜ Inherits (recordPolicy c) n (policyIn (now (allow .entry)) policy) declared (originIn (now (t .entry)) o) (decisionIn r) ⌝ }
+{
+    let text = c.text;
+    let own = c.origin;
+    let value_own = value(c, n, &text, own);
+    let value_arriving = value(c, n, t, o);
+    let same = is_own(c, t, o);
+    let allowed = containers::policy_admits(allow, policy, same, declared, t, o);
+    let default = features::default_of(n);
+    decisions::inherited(Framed {
+        value_own,
+        value_arriving,
+        allowed,
+        default,
+        same,
+    })
+}
+
+// What a document at an origin inherits in a frame of the document, bit n for feature n; the origin is the declared one.
+pub fn inherited(
+    c: Document,
+    allow: &[u8],
+    allowfullscreen: bool,
+    declared: bool,
+    t: &[u8],
+    o: OriginRange,
+) -> u32
+    ensures { λ r. ⌜ IsInherited (recordPolicy c) (now (allow .entry)) allowfullscreen declared (originIn (now (t .entry)) o) r ⌝ }
+{
+    let policies = containers::allow_policies(allow, allowfullscreen);
+    let mut all = [Decision::Disabled; features::COUNT];
+    let mut i: usize = 0;
+    while i < features::COUNT {
+        let p = policies[i];
+        all[i] = inherits(c, p, i as u32, allow, declared, t, o);
         i += 1;
     }
     decisions::mask(all)

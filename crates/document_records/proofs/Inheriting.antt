@@ -1,0 +1,99 @@
+-- What a frame of a document's record inherits, in the terms of the code. Assumes nothing.
+use mathlib.Core.Path.{_≡_, refl, ap, _∙_, sym}
+use Prim.Native.Nat.{ℕ, _+_, _≤_, _<_}
+use mathlib.Core.List.{List}
+use mathlib.Core.Bool.{Bool, true, false}
+use mathlib.Core.Option.{Option, some, none}
+use native.Mathlib.Omega.{arith}
+use lib.ListN.{length, getD, set}
+use lib.Seq.{getD-set-same, getD-set-other}
+use lib.Dec.{eqb}
+use borrow.Author.Tests.{eqb-true, eqb-false}
+use Rattle.ascii.proofs.Clash.{clash}
+use Rattle.features.specs.Features.{featureCount, defaultOf}
+use Rattle.features.specs.Answers.{defaultIn}
+use Rattle.features.specs.declared.DefaultOf.{DefaultOf}
+use Rattle.origins.specs.Origins.{Origin}
+use Rattle.origins.specs.Origins.Origin.{tuple, fresh}
+use Rattle.origins.specs.Matching.{sameOrigin}
+use Rattle.origins.specs.Answers.{originIn, tupleIn}
+use Rattle.origins.specs.declared.TupleRange.{TupleRange}
+use Rattle.origins.specs.declared.OriginRange.the-variants as range
+use Rattle.origins.proofs.Laws.{fresh-left}
+use Rattle.allowlists.specs.Allowlists.{Allowlist, someAdmits}
+use Rattle.allowlists.specs.Answers.{admissionAs, admissionIn}
+use Rattle.allowlists.specs.declared.Admission.{Admission}
+use Rattle.containers.specs.Policies.{allowPolicy}
+use Rattle.containers.specs.Answers.{policyIn, IsPolicies, declaredIn}
+use Rattle.containers.specs.declared.ContainerPolicy.{ContainerPolicy}
+use Rattle.containers.specs.declared.ContainerPolicy.the-variants as policy
+use Rattle.containers.specs.declared.DeclaredOrigin.{DeclaredOrigin}
+use Rattle.containers.specs.declared.DeclaredOrigin.the-variants as declared
+use Rattle.decisions.specs.Decisions.{Decision, inheritedBy}
+use Rattle.decisions.specs.Masks.{maskOf}
+use Rattle.decisions.specs.Policies.{Policy, Frame, inheritedFramed, valueIn, inheritedIn}
+use Rattle.decisions.specs.Answers.{decisionIn, decisionsIn}
+use Rattle.decisions.specs.declared.Decision.{Decision as Answer}
+use Rattle.decisions.specs.declared.Decision.the-variants as answer
+use Rattle.decisions.proofs.Laws.{inherited-says, inherited-parts, mask-places}
+use Rattle.document_records.specs.Records.{ownOrigin, recordPolicy, IsDeclaredOrigin, Inherits, IsInherited}
+use Rattle.document_records.specs.declared.Document.{Document}
+use Rattle.document_records.proofs.Deciding.{record-own}
+
+-- the declared origin, case by case
+module _ (c : Origin) (d : DeclaredOrigin) (src : List ℕ) (o : Origin) where
+  named : (x : Origin) (r : Bool) → declaredIn src c d ≡ some x → r ≡ sameOrigin x o → IsDeclaredOrigin c d src o r
+  named x r e h = record { says = λ y f. (let q : x ≡ y = cc in rw (← q) h); none-declared = λ f. clash cc }
+
+  pub declared-fresh : d ≡ declared.Fresh → IsDeclaredOrigin c d src o false
+  declared-fresh k = named fresh false (ap (declaredIn src c) k) (sym (fresh-left o))
+
+  pub declared-container : (r : Bool) → d ≡ declared.Container → r ≡ sameOrigin c o → IsDeclaredOrigin c d src o r
+  declared-container r k h = named c r (ap (declaredIn src c) k) h
+
+  pub declared-src : (q : TupleRange) (r : Bool) → d ≡ declared.Src q → r ≡ sameOrigin (originIn src (range.Tuple q)) o → IsDeclaredOrigin c d src o r
+  declared-src q r k h = named (tuple (tupleIn src q)) r (ap (declaredIn src c) k) h
+
+  pub declared-none : d ≡ declared.NotAnOrigin → IsDeclaredOrigin c d src o false
+  declared-none k = record { says = λ y f. (let g : declaredIn src c d ≡ none = ap (declaredIn src c) k in clash cc); none-declared = λ f. refl }
+
+pub ruleset declareds = (declared-fresh, declared-container, declared-src, declared-none)
+
+-- *Inherited* of a feature, by its parts
+pub inherits-is : (c : Document) (n : ℕ) (allowed : Option Allowlist) (isDeclared same : Bool) (o : Origin) (v w r : Answer) (a : Admission) (default : DefaultOf)
+    → decisionIn v ≡ valueIn (recordPolicy c) n (ownOrigin c)
+    → decisionIn w ≡ valueIn (recordPolicy c) n o
+    → same ≡ sameOrigin (ownOrigin c) o
+    → a ≡ admissionAs (someAdmits allowed same isDeclared o)
+    → defaultIn default ≡ defaultOf n
+    → decisionIn r ≡ inheritedBy (decisionIn v) (decisionIn w) (admissionIn a) (defaultIn default) same
+    → Inherits (recordPolicy c) n allowed isDeclared o (decisionIn r)
+inherits-is c n allowed isDeclared same o v w r a default e f g h k is =
+    record {
+      says = λ x q.
+          inherited-says allowed (ownOrigin c) x o same isDeclared a g q h v w r default is
+          ∙ rw (e, f, k, ← (record-own c));
+    }
+
+-- decisions stored one after the other
+pub record Stored (p : Policy) (allow : List ℕ) (mark isDeclared : Bool) (o : Origin) (i : ℕ) (all : List Answer) : Type 0 where
+  pub each : (n : ℕ) → n < i → Inherits p n (allowPolicy allow mark n) isDeclared o (decisionIn (getD all n answer.Disabled))
+
+pub none-stored : (p : Policy) (allow : List ℕ) (mark isDeclared : Bool) (o : Origin) (all : List Answer) → Stored p allow mark isDeclared o 0 all
+none-stored p allow mark isDeclared o all = record { each = λ n h. absurd (omega arith) }
+
+pub one-stored : (p : Policy) (allow : List ℕ) (mark isDeclared : Bool) (o : Origin) (i : ℕ) (all : List Answer) (ps : List ContainerPolicy) (x : ContainerPolicy) (r : Answer) → Stored p allow mark isDeclared o i all → length all ≡ featureCount → i < featureCount → IsPolicies allow mark ps → x ≡ getD ps i policy.None → Inherits p i (policyIn allow x) isDeclared o (decisionIn r) → Stored p allow mark isDeclared o (i + 1) (set all i r)
+one-stored p allow mark isDeclared o i all ps x r st long h is e f = record { each = λ n m. go n m (eqb n i) refl }
+  where
+    go : (n : ℕ) → n < i + 1 → (b : Bool) → eqb n i ≡ b → Inherits p n (allowPolicy allow mark n) isDeclared o (decisionIn (getD (set all i r) n answer.Disabled))
+    go n m true t =
+        let u : n ≡ i = eqb-true n i t in
+        let lt : i < length all = omega arith in
+        rw (u, getD-set-same all i r answer.Disabled lt, ← (is .says i h), ← e) f
+    go n m false t =
+        let u : n ≡ i → ⊥ = eqb-false n i t in
+        rw (getD-set-other all i n r answer.Disabled u) (st .each n (omega arith))
+
+pub inherited-is : (p : Policy) (allow : List ℕ) (mark isDeclared : Bool) (o : Origin) (i : ℕ) (all : List Answer) (r : ℕ) → Stored p allow mark isDeclared o i all → featureCount ≤ i → r ≡ maskOf (decisionsIn all) → IsInherited p allow mark isDeclared o r
+inherited-is p allow mark isDeclared o i all r st h e =
+    record { says = λ f g q. e ∙ mask-places all (inheritedIn p f o) (λ n lt. st .each n (omega arith) .says (f .declared) q ∙ (rw (← (g n)) (sym (inherited-parts p n o f)))) }
