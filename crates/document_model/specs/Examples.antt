@@ -51,11 +51,11 @@ between = unload 5 ∷ question 5 camera [] ∷ []
 abbrev flows : Run
 flows = record {
   calls =
-    loads ++ (question 1 camera [] ∷ between)
-    ++ (question 1 camera [] ∷ question 2 camera (text "https://b.example") ∷ question 3 camera [] ∷ question 3 camera (text "https://a.example") ∷ question 4 camera [] ∷ listing 1 (7 ∷ 7 ∷ 7 ∷ []) ∷ []);
+      loads ++ (question 1 camera [] ∷ between)
+      ++ (question 1 camera [] ∷ question 2 camera (text "https://b.example") ∷ question 3 camera [] ∷ question 3 camera (text "https://a.example") ∷ question 4 camera [] ∷ listing 1 (7 ∷ 7 ∷ 7 ∷ []) ∷ []);
   expected =
-    loaded 1 false ∷ loaded 2 false ∷ loaded 3 false ∷ loaded 4 false ∷ loaded 5 false ∷ decision disabled ∷ removed 1 ∷ refused NotLoaded
-    ∷ decision disabled ∷ decision disabled ∷ decision disabled ∷ decision disabled ∷ decision enabled ∷ serials 2 (2 ∷ 3 ∷ 7 ∷ []) ∷ [];
+      loaded 1 false ∷ loaded 2 false ∷ loaded 3 false ∷ loaded 4 false ∷ loaded 5 false ∷ decision disabled ∷ removed 1 ∷ refused NotLoaded
+      ∷ decision disabled ∷ decision disabled ∷ decision disabled ∷ decision disabled ∷ decision enabled ∷ serials 2 (2 ∷ 3 ∷ 7 ∷ []) ∷ [];
 }
 
 -- ---- claim 2: one item more, and one word more, each adds an Enabled in a grandchild
@@ -138,27 +138,27 @@ rows =
     -- the order of the refusals
     ∷ record {
       calls =
-        question 9 17 (text "https://a.example:443")
-        ∷ question 9 17 []
-        ∷ question 9 16 []
-        ∷ topLoad (long 1025) []
-        ∷ topLoad (long 1024) []
-        ∷ framedLoad 9 [] (text "null") (record { allow = []; allowfullscreen = false; hasSandbox = false; sandbox = long 1025; src = text "x" })
-        ∷ framedLoad 9 [] (text "null") (record { allow = []; allowfullscreen = false; hasSandbox = false; sandbox = []; src = text "x" })
-        ∷ framedLoad 9 [] (text "https://b.example") (sandboxing "")
-        ∷ [];
+          question 9 17 (text "https://a.example:443")
+          ∷ question 9 17 []
+          ∷ question 9 16 []
+          ∷ topLoad (long 1025) []
+          ∷ topLoad (long 1024) []
+          ∷ framedLoad 9 [] (text "null") (record { allow = []; allowfullscreen = false; hasSandbox = false; sandbox = long 1025; src = text "x" })
+          ∷ framedLoad 9 [] (text "null") (record { allow = []; allowfullscreen = false; hasSandbox = false; sandbox = []; src = text "x" })
+          ∷ framedLoad 9 [] (text "https://b.example") (sandboxing "")
+          ∷ [];
       expected = refused BadOrigin ∷ refused NoSuchFeature ∷ refused NotLoaded ∷ refused TooLong ∷ refused BadOrigin ∷ refused TooLong ∷ refused BadOrigin ∷ refused NotLoaded ∷ [];
     }
     -- sandboxed documents, and runs that are too short
     ∷ record {
       calls =
-        topLoad (text "camera") (text "https://a.example")
-        ∷ framedLoad 1 [] (text "https://b.example") (sandboxing "")
-        ∷ framedLoad 1 (text "camera=(") (text "null") (sandboxing "")
-        ∷ framedLoad 2 [] [] (allowing "")
-        ∷ listing 1 []
-        ∷ listing 2 []
-        ∷ [];
+          topLoad (text "camera") (text "https://a.example")
+          ∷ framedLoad 1 [] (text "https://b.example") (sandboxing "")
+          ∷ framedLoad 1 (text "camera=(") (text "null") (sandboxing "")
+          ∷ framedLoad 2 [] [] (allowing "")
+          ∷ listing 1 []
+          ∷ listing 2 []
+          ∷ [];
       expected = loaded 1 false ∷ refused Sandbox ∷ loaded 2 true ∷ refused Sandbox ∷ refused Small ∷ serials 0 [] ∷ [];
     }
     -- the seventeenth
