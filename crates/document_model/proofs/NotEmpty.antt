@@ -14,7 +14,7 @@ use Rattle.decisions.specs.Decisions.Decision.{disabled, enabled}
 use Rattle.document_model.specs.Runs.{Each}
 use Rattle.document_model.specs.Model.{Text, isGoodOrigin, Call, topLoad, framedLoad, unload, question, enabledFeatures, forecastOf, Answer, refused, loaded, removed, decision, features, answers, answerAfter}
 use Rattle.document_model.specs.History.{Event, history, Happened, last, earlier, gave-framed, Framed, framed-by, Unloaded, unloaded, BeneathIn, directly, through, LoadedIn, now, still}
-use Rattle.document_model.specs.Claims.{item-top, word-framed, word-forecast, isAccepted, Keeps, as-src, as-null}
+use Rattle.document_model.specs.Claims.{item-top, word-framed, isAccepted, Keeps, as-src, as-null}
 use Rattle.document_model.specs.Computing.{computing}
 use Rattle.document_model.proofs.Claims.{disabled-flows-down, more-never-takes-away, forecast-comes-true}
 
