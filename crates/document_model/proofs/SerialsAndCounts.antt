@@ -125,14 +125,20 @@ removed-list cs s docs = record {
         (λ g. rw e at (where-whole (isAtOrBeneath s) (y .1) g))
         (λ g. absurd (p .1 (rw e at (agrees (cs ++ (unload s ∷ [])) .told (y .0) (subst (In (y .0)) (sym docs) (remaining-in s (y .1) g))))))
 
+unload-leaves : (cs : List Call) (s n : ℕ) → answerTo (unload s) (tableAfter cs) ≡ removed n → tableAfter (cs ++ (unload s ∷ [])) .docs ≡ remaining s (tableAfter cs .docs)
+unfolding leftBy
+unload-leaves cs s n e =
+    let t = tableAfter cs in
+    ap (λ (v : Table). v .docs) (table-append cs (unload s ∷ [])) ∙ removal t (tableLeft (unload s) t) s n (answerTo (unload s) t) e (effect (unload s) t) .left
+
+pub some-removed : (cs : List Call) (s n : ℕ) → answerTo (unload s) (tableAfter cs) ≡ removed n →
+    (l : List ℕ) × Exactly (λ e. LoadedIn (history cs) e × (LoadedIn (history (cs ++ (unload s ∷ []))) e → ⊥)) l
+some-removed cs s n e = (serialsWhere (isAtOrBeneath s) (tableAfter cs .docs), removed-list cs s (unload-leaves cs s n e))
+
 -- "An unload's answer is how many were loaded before and aren't after."
 pub unload-answers : (cs : List Call) (s n : ℕ) (l : List ℕ) → answerTo (unload s) (tableAfter cs) ≡ removed n →
     Exactly (λ e. LoadedIn (history cs) e × (LoadedIn (history (cs ++ (unload s ∷ []))) e → ⊥)) l → n ≡ length l
-unfolding leftBy
 unload-answers cs s n l e x =
     let t = tableAfter cs in
-    let u = tableAfter (cs ++ (unload s ∷ [])) in
-    let same : u ≡ tableLeft (unload s) t = table-append cs (unload s ∷ []) in
     let w = removal t (tableLeft (unload s) t) s n (answerTo (unload s) t) e (effect (unload s) t) in
-    let docs : u .docs ≡ remaining s (t .docs) = ap (λ (v : Table). v .docs) same ∙ w .left in
-    w .many ∙ removed-where s (t .docs) ∙ ap length (exactly-one (λ k. LoadedIn (history cs) k × (LoadedIn (history (cs ++ (unload s ∷ []))) k → ⊥)) (serialsWhere (isAtOrBeneath s) (t .docs)) l (removed-list cs s docs) x)
+    w .many ∙ removed-where s (t .docs) ∙ ap length (exactly-one (λ k. LoadedIn (history cs) k × (LoadedIn (history (cs ++ (unload s ∷ []))) k → ⊥)) (serialsWhere (isAtOrBeneath s) (t .docs)) l (removed-list cs s (unload-leaves cs s n e)) x)

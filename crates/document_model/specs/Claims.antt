@@ -84,6 +84,7 @@ pub record SerialsAndCounts : Type 0 where
   -- and there are such lists
   pub some-loaded : (cs : List Call) → (l : List ℕ) × AreLoaded (history cs) l
   pub some-beneath : (cs : List Call) (s : ℕ) → (l : List ℕ) × AreBeneath (history cs) s l
+  pub some-removed : (cs : List Call) (s n : ℕ) → answerAfter cs (unload s) ≡ removed n → (l : List ℕ) × Exactly (λ e. LoadedIn (history cs) e × (LoadedIn (history (cs ++ (unload s ∷ []))) e → ⊥)) l
 
 -- ---- 4. A forecast comes true
 
