@@ -7,6 +7,7 @@ use mathlib.Core.Option.{Option}
 use mathlib.Core.List.{List, [], _∷_, _++_}
 use lib.Dec.{ltb→lt, leb→le}
 use lib.ListN.{length, length-append}
+use Rattle.ascii.proofs.Clash.{clash}
 use Rattle.limits.specs.Limits.{documentLimit, lastSerial}
 use Rattle.limits.specs.declared.Refusal.{Refusal}
 use Rattle.limits.specs.declared.Refusal.the-variants.{NotLoaded, NoSuchFeature, BadOrigin, TooLong, Sandbox, Full, Spent, Small}
@@ -99,6 +100,16 @@ outcome-effect c t = unless-ends (Effect t c) t TooLong (textsFit c) (fittingOut
 pub effect : (c : Call) (t : Table) → Effect t c (answerTo c t) (tableLeft c t)
 unfolding answerTo tableLeft
 effect c t = ends (Effect t c) t (outcome c t) (outcome-effect c t)
+
+-- a call that is refused leaves the table as it was
+same-table : (t u : Table) (c : Call) (a : Answer) (n : Refusal) → a ≡ refused n → Effect t c a u → u ≡ t
+same-table t u c a n e (nothing-else g v l r) = refl
+same-table t u c a n e (top-loaded h o m p q) = clash cc
+same-table t u c a n e (frame-loaded k h o b m d i q p z) = clash cc
+same-table t u c a n e (all-removed s) = clash cc
+
+pub refused-keeps : (c : Call) (t : Table) (n : Refusal) → answerTo c t ≡ refused n → tableLeft c t ≡ t
+refused-keeps c t n e = same-table t (tableLeft c t) c (answerTo c t) n e (effect c t)
 
 -- ---- numbers
 

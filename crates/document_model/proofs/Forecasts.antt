@@ -24,7 +24,7 @@ use Rattle.containers.proofs.Laws.{declared-fresh, declared-empty, declared-nul
 use Rattle.decisions.specs.Decisions.Decision.{disabled}
 use Rattle.decisions.specs.Masks.{decisionAt}
 use Rattle.decisions.specs.Policies.{Policy, Frame, questionIn, inheritedIn, enabledMask, forecast}
-use Rattle.decisions.proofs.Laws.{inherited-as-fresh, mask-back, mask-below, enabled-at, enabled-past, enabled-undeclared, forecast-is}
+use Rattle.decisions.proofs.Laws.{inherited-as-fresh, mask-back, mask-below, enabled-at, enabled-past, enabled-undeclared, forecast-is, forecast-past}
 use Rattle.document_model.specs.Runs.{leftBy}
 use Rattle.document_model.specs.Model.{Text, isGoodOrigin, isNull, arrivesAt, Identity, Document, valuesFrom, declaredBy, policyOf, frameSandboxed, frameDeclared, frameOf, orFresh, Table, find, Call, framedLoad, question, enabledFeatures, forecastOf, Answer, refused, loaded, decision, features, Outcome, accept, refuseUnless, withDocument, textsFit, load, framedIdentity, framedDocument, fittingOutcome, outcome, answerIn, answerTo, tableLeft, tableAfter}
 use Rattle.document_model.specs.Claims.{isAccepted, AtDeclared, as-src, as-null}
@@ -274,6 +274,13 @@ forecast-comes-true cs c o a m s bad e at l =
     let both : tableAfter (cs ++ (forecastOf c a ∷ framedLoad c [] o a ∷ [])) ≡ tableLeft (framedLoad c [] o a) t = table-append cs (forecastOf c a ∷ framedLoad c [] o a ∷ []) ∙ ap (tableLeft (framedLoad c [] o a)) same in
     let w = arrived t (reachable cs) c [] o a m s bad e (declared-text at) (rw first at l) in
     rw both (answers-enabled (tableLeft (framedLoad c [] o a) t) s (w .doc) (w .is) ∙ ap features (empty-enabled (w .doc) (w .declares) (w .equals-itself) (w .small) ∙ w .inherits))
+
+-- no other bit of a forecast is set
+pub forecast-bits : (cs : List Call) (c : ℕ) (a : Attributes) (m n : ℕ) → answerTo (forecastOf c a) (tableAfter cs) ≡ features m → featureCount ≤ n → decisionAt m n ≡ disabled
+forecast-bits cs c a m n e l =
+    let w = accepted-forecast (tableAfter cs) c a (rw e refl) in
+    let q : m ≡ forecast (policyOf (w .doc)) (frameOf (w .doc .identity) a) = forecast-found (tableAfter cs) c a m (w .doc) (w .is) e in
+    ap (λ (k : ℕ). decisionAt k n) q ∙ forecast-past (policyOf (w .doc)) (frameOf (w .doc .identity) a) n l
 
 -- an accepted number of enabled features
 enabled-found : (t : Table) (s m : ℕ) (o : Option Document) → find s (t .docs) ≡ o → answerIn (withDocument o λ d. accept (features (enabledMask (policyOf d))) t) ≡ features m → (d : Document) × (find s (t .docs) ≡ some d) × (m ≡ enabledMask (policyOf d))

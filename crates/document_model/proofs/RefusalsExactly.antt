@@ -4,7 +4,7 @@ use Prim.Native.Nat.{ℕ, zero, suc, _≤_, _<_}
 use native.Mathlib.Omega.{arith}
 use mathlib.Core.Bool.{Bool, true, false, not, _&&_, _||_}
 use mathlib.Core.Option.{Option}
-use mathlib.Core.List.{List}
+use mathlib.Core.List.{List, [], _∷_, _++_}
 use lib.Dec.{leb, ltb}
 use lib.ListN.{length}
 use borrow.Author.Tests.{ltb-true, ltb-false, leb-true, leb-false}
@@ -16,7 +16,8 @@ use Rattle.features.specs.Features.{featureCount}
 use Rattle.origins.specs.Origins.{OriginSaid, originOf}
 use Rattle.origins.specs.Origins.OriginSaid.{saysEmpty, saysNull, saysTuple, noOrigin}
 use Rattle.containers.specs.Attributes.{Attributes}
-use Rattle.document_model.specs.Model.{Text, isGoodOrigin, isNull, isGoodAtTop, Identity, Document, frameSandboxed, Table, find, serialsBeneath, Call, topLoad, framedLoad, unload, question, enabledFeatures, listing, forecastOf, Answer, refused, Outcome, refuse, accept, refuseUnless, withDocument, isShort, textsFit, load, fittingOutcome, outcome, answerIn, answerTo, tableAfter}
+use Rattle.document_model.specs.Runs.{leftBy, answersBy}
+use Rattle.document_model.specs.Model.{Text, isGoodOrigin, isNull, isGoodAtTop, Identity, Document, frameSandboxed, Table, find, serialsBeneath, Call, topLoad, framedLoad, unload, question, enabledFeatures, listing, forecastOf, Answer, refused, Outcome, refuse, accept, refuseUnless, withDocument, isShort, textsFit, load, fittingOutcome, outcome, answerIn, answerTo, tableLeft, tableAfter, answersAfter}
 use Rattle.document_model.specs.History.{Event, LoadedIn, BeneathIn, history}
 use Rattle.document_model.specs.Claims.{isAccepted}
 use Rattle.document_model.specs.Refusals.{Row, inputLong, badOrigin, badSrc, noFeature, notLoaded, sandboxed, full, spent, notDictionary, outputLong, small, place, refusalOf, Input, top-header, framed-header, framed-allow, framed-sandbox, forecast-allow, forecast-sandbox, Names, framed-names, unload-names, question-names, enabled-names, listing-names, forecast-names, IsLoad, is-top, is-framed, Holds, long, top-bad, top-empty, framed-bad, question-bad, framed-src, forecast-src, over-sixteen, closed, in-container, in-attribute, sixteen, all-given, short-run, First}
@@ -25,7 +26,7 @@ use Rattle.document_model.proofs.OriginTexts.{good-not, is-null, not-go
 use Rattle.document_model.proofs.Tables.{In, Finds, missing, hit, finds}
 use Rattle.document_model.proofs.Invariant.{reachable}
 use Rattle.document_model.proofs.Agreement.{agrees}
-use Rattle.document_model.proofs.Effects.{counted}
+use Rattle.document_model.proofs.Effects.{table-append, refused-keeps, counted}
 use Rattle.document_model.proofs.SerialLists.{serialsWhere, all-where, exactly-one, loaded-list, beneath-list}
 use Rattle.document_model.proofs.Sandboxed.{marked-told, told-marked, sandboxed-either, sandboxed-by-container, sandboxed-by-attributes}
 
@@ -392,3 +393,8 @@ refused-by-first cs c n e = answer-first (outcome c (tableAfter cs)) (verdict cs
 pub first-is-refused : (cs : List Call) (c : Call) (r : Row) → First (history cs) c r → answerTo c (tableAfter cs) ≡ refused (refusalOf r)
 unfolding answerTo
 first-is-refused cs c r f = first-answer (outcome c (tableAfter cs)) (verdict cs c) r f
+
+-- the table after a refusal is the one before, so later answers are as if the call hadn't been made
+pub refused-changes-nothing : (cs : List Call) (c : Call) (n : Refusal) (ds : List Call) → answerTo c (tableAfter cs) ≡ refused n → answersAfter (cs ++ (c ∷ [])) ds ≡ answersAfter cs ds
+unfolding leftBy
+refused-changes-nothing cs c n ds e = ap (answersBy answerTo tableLeft ds) (table-append cs (c ∷ []) ∙ refused-keeps c (tableAfter cs) n e)

@@ -1,6 +1,6 @@
--- Claim 3: by what each call does, and since the documents of the table are the loaded ones; and a refused call changes nothing. Assumes nothing.
+-- Claim 3: by what each call does, and since the documents of the table are the loaded ones. Assumes nothing.
 use mathlib.Core.Path.{_≡_, refl, sym, ap, subst, _∙_}
-use Prim.Native.Nat.{ℕ, _+_}
+use Prim.Native.Nat.{ℕ, _+_, _≤_}
 use native.Mathlib.Omega.{arith}
 use mathlib.Core.Bool.{Bool, true, false}
 use mathlib.Core.Option.{Option, none, some}
@@ -8,10 +8,10 @@ use mathlib.Core.List.{List, [], _∷_, _++_}
 use lib.Dec.{leb}
 use lib.ListN.{length}
 use Rattle.ascii.proofs.Clash.{clash}
-use Rattle.limits.specs.declared.Refusal.{Refusal}
+use Rattle.limits.specs.Limits.{documentLimit}
 use Rattle.limits.specs.declared.Refusal.the-variants.{Small}
 use Rattle.document_model.specs.Runs.{leftBy, answersBy}
-use Rattle.document_model.specs.Model.{Document, valuesFrom, Table, newTable, isAtOrBeneath, find, remaining, serialsBeneath, removedCount, Call, unload, listing, Answer, refused, loaded, removed, decision, features, serials, accept, refuseUnless, withDocument, textsFit, stored, fittingOutcome, outcome, answerIn, answerTo, tableLeft, tableAfter, answers, answersAfter}
+use Rattle.document_model.specs.Model.{Document, valuesFrom, Table, newTable, isAtOrBeneath, find, remaining, serialsBeneath, removedCount, Call, unload, listing, Answer, refused, loaded, removed, decision, features, serials, accept, refuseUnless, withDocument, textsFit, stored, fittingOutcome, outcome, answerIn, answerTo, tableLeft, tableAfter, answers}
 use Rattle.document_model.specs.History.{LoadedIn, BeneathIn, history, Member, Exactly, AreLoaded, AreBeneath, given, acceptedLoads, unloadSum, Unloaded, unloaded, acceptedLoad}
 use Rattle.document_model.specs.Claims.{Listed}
 use Rattle.document_model.proofs.Booleans.{either-way}
@@ -20,24 +20,6 @@ use Rattle.document_model.proofs.Invariant.{Invariant, reachable}
 use Rattle.document_model.proofs.Agreement.{Agrees, agrees}
 use Rattle.document_model.proofs.Effects.{table-append, Effect, nothing-else, top-loaded, frame-loaded, all-removed, effect, counted}
 use Rattle.document_model.proofs.SerialLists.{serialsWhere, all-where, removed-where, exactly-one, loaded-list, beneath-list, where-sound, where-whole, where-ascends-low}
-
--- ---- a refused call leaves every later answer as if it hadn't been made
-
--- no accepted call answers a refusal
-effect-same : (t u : Table) (c : Call) (a : Answer) (n : Refusal) → a ≡ refused n → Effect t c a u → u ≡ t
-effect-same t u c a n e (nothing-else g v l r) = refl
-effect-same t u c a n e (top-loaded h o m p q) = clash cc
-effect-same t u c a n e (frame-loaded k h o b m d i q p z) = clash cc
-effect-same t u c a n e (all-removed s) = clash cc
-
-pub refused-changes-nothing : (cs : List Call) (c : Call) (n : Refusal) (ds : List Call) → answerTo c (tableAfter cs) ≡ refused n →
-    (tableAfter (cs ++ (c ∷ ds)) ≡ tableAfter (cs ++ ds)) × (answersAfter (cs ++ (c ∷ [])) ds ≡ answersAfter cs ds)
-unfolding leftBy
-refused-changes-nothing cs c n ds e =
-    let same : tableLeft c (tableAfter cs) ≡ tableAfter cs = effect-same (tableAfter cs) (tableLeft c (tableAfter cs)) c (answerTo c (tableAfter cs)) n e (effect c (tableAfter cs)) in (
-      table-append cs (c ∷ ds) ∙ ap (leftBy tableLeft ds) same ∙ sym (table-append cs ds),
-      ap (answersBy answerTo tableLeft ds) (table-append cs (c ∷ []) ∙ same),
-    )
 
 -- ---- serials
 
@@ -75,6 +57,12 @@ pub number-loaded : (cs : List Call) (l : List ℕ) → AreLoaded (history cs) l
 number-loaded cs l a =
     let e : length l ≡ length (tableAfter cs .docs) = ap length (exactly-one (LoadedIn (history cs)) l (serialsWhere (λ w. true) (tableAfter cs .docs)) a (loaded-list cs)) ∙ all-where (tableAfter cs .docs) in
     omega (arith, counted cs .number)
+
+-- "At most 16 documents"
+pub at-most-sixteen : (cs : List Call) (l : List ℕ) → AreLoaded (history cs) l → length l ≤ documentLimit
+at-most-sixteen cs l a =
+    let e : length l ≡ length (tableAfter cs .docs) = ap length (exactly-one (LoadedIn (history cs)) l (serialsWhere (λ w. true) (tableAfter cs .docs)) a (loaded-list cs)) ∙ all-where (tableAfter cs .docs) in
+    omega (arith, reachable cs .few)
 
 -- ---- listings
 
@@ -137,14 +125,20 @@ removed-list cs s docs = record {
         (λ g. rw e at (where-whole (isAtOrBeneath s) (y .1) g))
         (λ g. absurd (p .1 (rw e at (agrees (cs ++ (unload s ∷ [])) .told (y .0) (subst (In (y .0)) (sym docs) (remaining-in s (y .1) g))))))
 
+unload-leaves : (cs : List Call) (s n : ℕ) → answerTo (unload s) (tableAfter cs) ≡ removed n → tableAfter (cs ++ (unload s ∷ [])) .docs ≡ remaining s (tableAfter cs .docs)
+unfolding leftBy
+unload-leaves cs s n e =
+    let t = tableAfter cs in
+    ap (λ (v : Table). v .docs) (table-append cs (unload s ∷ [])) ∙ removal t (tableLeft (unload s) t) s n (answerTo (unload s) t) e (effect (unload s) t) .left
+
+pub some-removed : (cs : List Call) (s n : ℕ) → answerTo (unload s) (tableAfter cs) ≡ removed n →
+    (l : List ℕ) × Exactly (λ e. LoadedIn (history cs) e × (LoadedIn (history (cs ++ (unload s ∷ []))) e → ⊥)) l
+some-removed cs s n e = (serialsWhere (isAtOrBeneath s) (tableAfter cs .docs), removed-list cs s (unload-leaves cs s n e))
+
 -- "An unload's answer is how many were loaded before and aren't after."
 pub unload-answers : (cs : List Call) (s n : ℕ) (l : List ℕ) → answerTo (unload s) (tableAfter cs) ≡ removed n →
     Exactly (λ e. LoadedIn (history cs) e × (LoadedIn (history (cs ++ (unload s ∷ []))) e → ⊥)) l → n ≡ length l
-unfolding leftBy
 unload-answers cs s n l e x =
     let t = tableAfter cs in
-    let u = tableAfter (cs ++ (unload s ∷ [])) in
-    let same : u ≡ tableLeft (unload s) t = table-append cs (unload s ∷ []) in
     let w = removal t (tableLeft (unload s) t) s n (answerTo (unload s) t) e (effect (unload s) t) in
-    let docs : u .docs ≡ remaining s (t .docs) = ap (λ (v : Table). v .docs) same ∙ w .left in
-    w .many ∙ removed-where s (t .docs) ∙ ap length (exactly-one (λ k. LoadedIn (history cs) k × (LoadedIn (history (cs ++ (unload s ∷ []))) k → ⊥)) (serialsWhere (isAtOrBeneath s) (t .docs)) l (removed-list cs s docs) x)
+    w .many ∙ removed-where s (t .docs) ∙ ap length (exactly-one (λ k. LoadedIn (history cs) k × (LoadedIn (history (cs ++ (unload s ∷ []))) k → ⊥)) (serialsWhere (isAtOrBeneath s) (t .docs)) l (removed-list cs s (unload-leaves cs s n e)) x)

@@ -4,6 +4,7 @@ use Prim.Native.Nat.{ℕ, _+_, _<_, _≤_}
 use mathlib.Core.Bool.{Bool, true, false}
 use mathlib.Core.List.{List, [], _∷_, _++_}
 use lib.ListN.{length, drop}
+use Rattle.limits.specs.Limits.{documentLimit}
 use Rattle.limits.specs.declared.Refusal.{Refusal}
 use Rattle.limits.specs.declared.Refusal.the-variants.{Sandbox}
 use Rattle.features.specs.Features.{featureCount}
@@ -73,6 +74,8 @@ pub record SerialsAndCounts : Type 0 where
   pub serials-in-order : (cs : List Call) → given (answers cs) ≡ valuesFrom (λ n. n) 1 (length (given (answers cs)))
   -- "The number loaded equals accepted loads minus the sum of the unload answers."
   pub number-loaded : (cs : List Call) (l : List ℕ) → AreLoaded (history cs) l → length l + unloadSum (history cs) ≡ acceptedLoads (history cs)
+  -- "At most 16 documents"
+  pub at-most-sixteen : (cs : List Call) (l : List ℕ) → AreLoaded (history cs) l → length l ≤ documentLimit
   -- "the serials beneath a document, ascending"
   pub listing-exactly : (cs : List Call) (s n : ℕ) (run run′ l : List ℕ) → answerAfter cs (listing s run) ≡ serials n run′ → AreBeneath (history cs) s l → Listed n run′ run l
   -- "Unloading removes a document and all beneath it and answers how many": "it must equal the documents that went", those loaded before and not after
@@ -81,6 +84,7 @@ pub record SerialsAndCounts : Type 0 where
   -- and there are such lists
   pub some-loaded : (cs : List Call) → (l : List ℕ) × AreLoaded (history cs) l
   pub some-beneath : (cs : List Call) (s : ℕ) → (l : List ℕ) × AreBeneath (history cs) s l
+  pub some-removed : (cs : List Call) (s n : ℕ) → answerAfter cs (unload s) ≡ removed n → (l : List ℕ) × Exactly (λ e. LoadedIn (history cs) e × (LoadedIn (history (cs ++ (unload s ∷ []))) e → ⊥)) l
 
 -- ---- 4. A forecast comes true
 
@@ -97,6 +101,8 @@ pub record ForecastComesTrue : Type 0 where
       → AtDeclared cs c a o
       → answerAfter (cs ++ (forecastOf c a ∷ [])) (framedLoad c [] o a) ≡ loaded s malformed
       → answerAfter (cs ++ (forecastOf c a ∷ framedLoad c [] o a ∷ [])) (enabledFeatures s) ≡ features m
+  -- "as a number with bit n for feature n": a forecast has no other bit
+  pub forecast-bits : (cs : List Call) (c : ℕ) (a : Attributes) (m n : ℕ) → answerAfter cs (forecastOf c a) ≡ features m → featureCount ≤ n → decisionAt m n ≡ disabled
   -- "the features enabled at a document's own origin as one 32-bit number, bit n for feature n and no other bit"
   pub bit-answers : (cs : List Call) (s m n : ℕ) → answerAfter cs (enabledFeatures s) ≡ features m → n < featureCount → answerAfter cs (question s n []) ≡ decision (decisionAt m n)
   pub no-other-bit : (cs : List Call) (s m n : ℕ) → answerAfter cs (enabledFeatures s) ≡ features m → featureCount ≤ n → decisionAt m n ≡ disabled

@@ -2,7 +2,7 @@
 use Prim.Native.Nat.{ℕ, zero, suc}
 use Prim.Native.String.{String}
 use mathlib.Core.Path.{_≡_, refl}
-use mathlib.Core.Bool.{Bool, true, false}
+use mathlib.Core.Bool.{true, false}
 use mathlib.Core.List.{List, [], _∷_, _++_, map}
 use native.Mathlib.Omega.{arith}
 use Rattle.ascii.specs.Literals.{text}
@@ -51,11 +51,11 @@ between = unload 5 ∷ question 5 camera [] ∷ []
 abbrev flows : Run
 flows = record {
   calls =
-    loads ++ (question 1 camera [] ∷ between)
-    ++ (question 1 camera [] ∷ question 2 camera (text "https://b.example") ∷ question 3 camera [] ∷ question 3 camera (text "https://a.example") ∷ question 4 camera [] ∷ listing 1 (7 ∷ 7 ∷ 7 ∷ []) ∷ []);
+      loads ++ (question 1 camera [] ∷ between)
+      ++ (question 1 camera [] ∷ question 2 camera (text "https://b.example") ∷ question 3 camera [] ∷ question 3 camera (text "https://a.example") ∷ question 4 camera [] ∷ listing 1 (7 ∷ 7 ∷ 7 ∷ []) ∷ []);
   expected =
-    loaded 1 false ∷ loaded 2 false ∷ loaded 3 false ∷ loaded 4 false ∷ loaded 5 false ∷ decision disabled ∷ removed 1 ∷ refused NotLoaded
-    ∷ decision disabled ∷ decision disabled ∷ decision disabled ∷ decision disabled ∷ decision enabled ∷ serials 2 (2 ∷ 3 ∷ 7 ∷ []) ∷ [];
+      loaded 1 false ∷ loaded 2 false ∷ loaded 3 false ∷ loaded 4 false ∷ loaded 5 false ∷ decision disabled ∷ removed 1 ∷ refused NotLoaded
+      ∷ decision disabled ∷ decision disabled ∷ decision disabled ∷ decision disabled ∷ decision enabled ∷ serials 2 (2 ∷ 3 ∷ 7 ∷ []) ∷ [];
 }
 
 -- ---- claim 2: one item more, and one word more, each adds an Enabled in a grandchild
@@ -80,18 +80,18 @@ pub word-added : OneWordMore isSemicolon (text fewerWords) (text moreWords)
 unfolding computing
 word-added = record { earlier = []; later = []; feature = text "camera"; front = text "https://c.example" ∷ []; back = []; one = omega arith; word = text "https://b.example"; first = refl; second = refl }
 
--- the calls past the first, told the allow attribute of the framed load among them; and all
-abbrev pub frames : String → List Call
-frames allow = framedLoad 1 [] (text "https://b.example") (allowing allow) ∷ framedLoad 2 [] [] (allowing "") ∷ question 3 camera [] ∷ enabledFeatures 3 ∷ forecastOf 1 (allowing allow) ∷ []
+-- the grandchild's load, and what is asked then
+abbrev pub grandchild : List Call
+grandchild = framedLoad 2 [] [] (allowing "") ∷ question 3 camera [] ∷ enabledFeatures 3 ∷ forecastOf 1 (allowing "camera") ∷ []
+
+abbrev pub framed : String → Call
+framed allow = framedLoad 1 [] (text "https://b.example") (allowing allow)
+
+abbrev pub top : Text → Call
+top header = topLoad header (text "https://a.example")
 
 abbrev pub family : Text → String → List Call
-family header allow = topLoad header (text "https://a.example") ∷ frames allow
-
-abbrev fewer : List Answer
-fewer = loaded 1 false ∷ loaded 2 false ∷ loaded 3 false ∷ decision disabled ∷ features 64908 ∷ features 64908 ∷ []
-
-abbrev more : List Answer
-more = loaded 1 false ∷ loaded 2 false ∷ loaded 3 false ∷ decision enabled ∷ features 64909 ∷ features 64909 ∷ []
+family header allow = top header ∷ framed allow ∷ grandchild
 
 -- ---- all runs
 
@@ -106,18 +106,23 @@ long (suc n) = 32 ∷ long n
 rows : List Run
 rows =
     flows
-    ∷ record { calls = family fewerItems "camera"; expected = fewer }
-    ∷ record { calls = family moreItems "camera"; expected = more }
-    ∷ record { calls = family [] fewerWords; expected = fewer }
-    ∷ record { calls = family [] moreWords; expected = more }
+    ∷ record { calls = family fewerItems "camera"; expected = loaded 1 false ∷ loaded 2 false ∷ loaded 3 false ∷ decision disabled ∷ features 64908 ∷ features 64908 ∷ [] }
+    ∷ record { calls = family moreItems "camera"; expected = loaded 1 false ∷ loaded 2 false ∷ loaded 3 false ∷ decision enabled ∷ features 64909 ∷ features 64909 ∷ [] }
+    ∷ record { calls = family [] fewerWords; expected = loaded 1 false ∷ loaded 2 false ∷ loaded 3 false ∷ decision disabled ∷ features 64908 ∷ features 64909 ∷ [] }
+    ∷ record { calls = family [] moreWords; expected = loaded 1 false ∷ loaded 2 false ∷ loaded 3 false ∷ decision enabled ∷ features 64909 ∷ features 64909 ∷ [] }
+    ∷ record { calls = top [] ∷ forecastOf 1 (allowing fewerWords) ∷ forecastOf 1 (allowing moreWords) ∷ []; expected = loaded 1 false ∷ features 64908 ∷ features 64909 ∷ [] }
     -- claim 4: a load that arrives at the declared origin inherits what was forecast, and one that arrives elsewhere something else
     ∷ record {
-      calls = topLoad [] (text "https://a.example") ∷ forecastOf 1 (allowing "camera") ∷ framedLoad 1 [] (text "https://c.example") (allowing "camera") ∷ enabledFeatures 2 ∷ framedLoad 1 [] (text "https://b.example") (allowing "camera") ∷ enabledFeatures 3 ∷ [];
+      calls = top [] ∷ forecastOf 1 (allowing "camera") ∷ framedLoad 1 [] (text "https://c.example") (allowing "camera") ∷ enabledFeatures 2 ∷ framed "camera" ∷ enabledFeatures 3 ∷ [];
       expected = loaded 1 false ∷ features 64909 ∷ loaded 2 false ∷ features 64908 ∷ loaded 3 false ∷ features 64909 ∷ [];
+    }
+    ∷ record {
+      calls = top [] ∷ forecastOf 1 (sandboxing "camera *") ∷ framedLoad 1 [] (text "null") (sandboxing "camera *") ∷ enabledFeatures 2 ∷ [];
+      expected = loaded 1 false ∷ features 64909 ∷ loaded 2 false ∷ features 64909 ∷ [];
     }
     -- unloading removes all beneath
     ∷ record {
-      calls = topLoad [] (text "https://a.example") ∷ framedLoad 1 [] [] (allowing "") ∷ framedLoad 2 [] [] (allowing "") ∷ unload 1 ∷ enabledFeatures 3 ∷ [];
+      calls = top [] ∷ framedLoad 1 [] [] (allowing "") ∷ framedLoad 2 [] [] (allowing "") ∷ unload 1 ∷ enabledFeatures 3 ∷ [];
       expected = loaded 1 false ∷ loaded 2 false ∷ loaded 3 false ∷ removed 3 ∷ refused NotLoaded ∷ [];
     }
     -- serials are never used again
@@ -133,27 +138,27 @@ rows =
     -- the order of the refusals
     ∷ record {
       calls =
-        question 9 17 (text "https://a.example:443")
-        ∷ question 9 17 []
-        ∷ question 9 16 []
-        ∷ topLoad (long 1025) []
-        ∷ topLoad (long 1024) []
-        ∷ framedLoad 9 [] (text "null") (record { allow = []; allowfullscreen = false; hasSandbox = false; sandbox = long 1025; src = text "x" })
-        ∷ framedLoad 9 [] (text "null") (record { allow = []; allowfullscreen = false; hasSandbox = false; sandbox = []; src = text "x" })
-        ∷ framedLoad 9 [] (text "https://b.example") (sandboxing "")
-        ∷ [];
+          question 9 17 (text "https://a.example:443")
+          ∷ question 9 17 []
+          ∷ question 9 16 []
+          ∷ topLoad (long 1025) []
+          ∷ topLoad (long 1024) []
+          ∷ framedLoad 9 [] (text "null") (record { allow = []; allowfullscreen = false; hasSandbox = false; sandbox = long 1025; src = text "x" })
+          ∷ framedLoad 9 [] (text "null") (record { allow = []; allowfullscreen = false; hasSandbox = false; sandbox = []; src = text "x" })
+          ∷ framedLoad 9 [] (text "https://b.example") (sandboxing "")
+          ∷ [];
       expected = refused BadOrigin ∷ refused NoSuchFeature ∷ refused NotLoaded ∷ refused TooLong ∷ refused BadOrigin ∷ refused TooLong ∷ refused BadOrigin ∷ refused NotLoaded ∷ [];
     }
     -- sandboxed documents, and runs that are too short
     ∷ record {
       calls =
-        topLoad (text "camera") (text "https://a.example")
-        ∷ framedLoad 1 [] (text "https://b.example") (sandboxing "")
-        ∷ framedLoad 1 (text "camera=(") (text "null") (sandboxing "")
-        ∷ framedLoad 2 [] [] (allowing "")
-        ∷ listing 1 []
-        ∷ listing 2 []
-        ∷ [];
+          topLoad (text "camera") (text "https://a.example")
+          ∷ framedLoad 1 [] (text "https://b.example") (sandboxing "")
+          ∷ framedLoad 1 (text "camera=(") (text "null") (sandboxing "")
+          ∷ framedLoad 2 [] [] (allowing "")
+          ∷ listing 1 []
+          ∷ listing 2 []
+          ∷ [];
       expected = loaded 1 false ∷ refused Sandbox ∷ loaded 2 true ∷ refused Sandbox ∷ refused Small ∷ serials 0 [] ∷ [];
     }
     -- the seventeenth

@@ -49,7 +49,8 @@ isNull saysNull = true
 isNull (saysTuple o) = false
 isNull noOrigin = false
 
--- the origin of a document that is loaded with an origin text: "`null` is a fresh opaque origin", named by the document's serial; "Empty means: the container's origin (loads, ...)"
+-- the origin of a document that is loaded with an origin text: "`null` is a fresh opaque origin", named by the document's serial; "Empty means: the container's origin (loads, ...)".
+-- A text that is no origin text is refused, here and below
 abbrev pub arrivesAt : OriginSaid → Origin → ℕ → Origin
 arrivesAt saysEmpty container serial = container
 arrivesAt saysNull container serial = opaque serial
@@ -215,6 +216,7 @@ load t malformed document identity =
     (refuseUnless Spent (leb (t .next) lastSerial)
     (accept (loaded (t .next) malformed) (record { docs = t .docs ++ (document (identity (t .next)) ∷ []); next = suc (t .next) })))
 
+-- at the top there is no container: the empty text is refused
 unfoldable pub topIdentity : OriginSaid → ℕ → Identity
 topIdentity said n = record { serial = n; above = []; origin = arrivesAt said (opaque n) n; sandboxed = false }
 
