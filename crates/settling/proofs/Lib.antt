@@ -3,3 +3,4 @@ pub mod Listing
 pub mod Sizes
 pub mod Documents
 pub mod Members
+pub mod Laws
