@@ -1,0 +1,6 @@
+pub mod Writes
+pub mod Listing
+pub mod Sizes
+pub mod Documents
+pub mod Members
+pub mod Laws
