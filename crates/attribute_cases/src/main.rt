@@ -4,16 +4,16 @@
 // header, its own header, feature), `enabled` is for the number of the container's enabled features (header), `forecast` for a
 // forecast (header, allow, sandbox, src). Else what is asked is the document that arrives (header, allow, sandbox, src, arriving
 // origin, feature). `sandbox` and `allowfullscreen` say that the attribute stands, `sandboxed` that the container is sandboxed.
+use allowlists::Admission;
 use ascii::Class;
+use containers::ContainerPolicy;
 use containers::DeclaredOrigin;
-use decisions::AttributeAnswer;
 use decisions::Decision;
 use decisions::Framed;
-use declarations::Admission;
-use declarations::Setting;
 use features::Lookup;
 use origins::OriginRange;
 use origins::OriginText;
+use settling::Settled;
 
 fn put(t: &[u8]) {
     io::write_all(1, t);
@@ -62,14 +62,16 @@ fn feature(word: &[u8]) -> u32 {
     }
 }
 
-// What a header is settled to for a feature.
-fn setting(header: &[u8], n: u32) -> Setting {
-    let k = declarations::settle(header);
-    let i = n as usize;
-    if i < features::COUNT {
-        k.features[i]
-    } else {
-        k.features[0]
+// The bytes that a header is settled into, at most.
+const SETTLED_BYTES: usize = settled::HEAD + limits::TEXT_BYTES;
+
+// What a header answers for a feature and an origin; `same`: it is the document's own.
+fn admits(header: &[u8], n: u32, same: bool, t: &[u8], o: OriginRange) -> Admission {
+    let mut kept = [0u8; SETTLED_BYTES];
+    match settling::settle(header, &mut kept) {
+        Settled::Header(_) => settled::admits(&kept, n, same, t, o),
+        Settled::TooLong => Admission::NoList,
+        Settled::Small => Admission::NoList,
     }
 }
 
@@ -80,17 +82,27 @@ struct Arrival {
     declared_same: bool,
 }
 
+// What a frame's allow attribute and allowfullscreen give a feature.
+fn container_policy(allow: &[u8], full: bool, n: u32) -> ContainerPolicy {
+    let policies = containers::allow_policies(allow, full);
+    let i = n as usize;
+    if i < features::COUNT {
+        policies[i]
+    } else {
+        ContainerPolicy::None
+    }
+}
+
 // What a document at an origin inherits for a feature from the container.
 fn inherits(header: &[u8], allow: &[u8], full: bool, n: u32, t: &[u8], a: Arrival) -> Decision {
-    let d = setting(header, n);
     let o = a.origin;
     let container = origin(b"https://a.example");
-    let at_own = declarations::admits(header, d, true, b"https://a.example", container);
-    let at_arriving = declarations::admits(header, d, a.container_same, t, o);
-    let policy = containers::container_policy(allow, full, n);
+    let at_own = admits(header, n, true, b"https://a.example", container);
+    let at_arriving = admits(header, n, a.container_same, t, o);
+    let policy = container_policy(allow, full, n);
     let value_own = decisions::value(Decision::Enabled, at_own);
     let value_arriving = decisions::value(Decision::Enabled, at_arriving);
-    let allowed = decisions::attribute_admits(
+    let allowed = containers::policy_admits(
         allow,
         policy,
         a.container_same,
@@ -110,8 +122,8 @@ fn inherits(header: &[u8], allow: &[u8], full: bool, n: u32, t: &[u8], a: Arriva
 
 // The declared origin of a frame.
 fn declared(marks: &[u8], sandbox: &[u8], src: &[u8]) -> DeclaredOrigin {
-    let above = containers::has_keyword(marks, b"sandboxed");
-    let stands = containers::has_keyword(marks, b"sandbox");
+    let above = pieces::has_keyword(marks, b"sandboxed");
+    let stands = pieces::has_keyword(marks, b"sandbox");
     let sandboxed = containers::is_sandboxed(above, stands, sandbox);
     let said = origins::origin_text(src);
     containers::declared_origin(sandboxed, said)
@@ -126,7 +138,7 @@ fn is_container(t: &[u8], o: OriginRange) -> bool {
 fn arrived(line: &[u8], t: &[u8]) {
     let src = field(line, 4);
     let n = feature(field(line, 6));
-    let full = containers::has_keyword(field(line, 0), b"allowfullscreen");
+    let full = pieces::has_keyword(field(line, 0), b"allowfullscreen");
     let o = origin(t);
     let container_same = is_container(t, o);
     let declared_same = match declared(field(line, 0), field(line, 3), src) {
@@ -142,7 +154,7 @@ fn arrived(line: &[u8], t: &[u8]) {
     };
     let inherited = inherits(field(line, 1), field(line, 2), full, n, t, a);
     let default = features::default_of(n);
-    put_decision(decisions::question(inherited, Admission::Undeclared, default, true));
+    put_decision(decisions::question(inherited, Admission::NoList, default, true));
 }
 
 // An empty text is the container's origin.
@@ -157,9 +169,8 @@ fn arriving(line: &[u8]) {
 
 // The container, asked at its own origin.
 fn asked(header: &[u8], n: u32) -> Decision {
-    let d = setting(header, n);
     let o = origin(b"https://a.example");
-    let admission = declarations::admits(header, d, true, b"https://a.example", o);
+    let admission = admits(header, n, true, b"https://a.example", o);
     let default = features::default_of(n);
     decisions::question(Decision::Enabled, admission, default, true)
 }
@@ -173,17 +184,16 @@ fn grandchild(header: &[u8], below: &[u8], n: u32) -> Decision {
         declared_same: true,
     };
     let above = inherits(header, b"", false, n, b"https://b.example", a);
-    let value = decisions::value(above, Admission::Undeclared);
+    let value = decisions::value(above, Admission::NoList);
     let default = features::default_of(n);
     let inherited = decisions::inherited(Framed {
         value_own: value,
         value_arriving: value,
-        allowed: AttributeAnswer::None,
+        allowed: Admission::NoList,
         default,
         same: true,
     });
-    let d = setting(below, n);
-    let admission = declarations::admits(below, d, true, b"https://b.example", o);
+    let admission = admits(below, n, true, b"https://b.example", o);
     decisions::question(inherited, admission, default, true)
 }
 
@@ -203,7 +213,7 @@ fn forecast(line: &[u8]) {
     let header = field(line, 1);
     let allow = field(line, 2);
     let src = field(line, 4);
-    let full = containers::has_keyword(field(line, 0), b"allowfullscreen");
+    let full = pieces::has_keyword(field(line, 0), b"allowfullscreen");
     match declared(field(line, 0), field(line, 3), src) {
         DeclaredOrigin::Fresh => {
             let a = Arrival {
@@ -250,20 +260,20 @@ fn enabled_mask(header: &[u8]) -> u32 {
 fn case(line: &[u8]) {
     let kind = field(line, 0);
     put(line);
-    if containers::has_keyword(kind, b"container") {
+    if pieces::has_keyword(kind, b"container") {
         put_decision(asked(field(line, 1), feature(field(line, 2))));
         return;
     }
-    if containers::has_keyword(kind, b"grandchild") {
+    if pieces::has_keyword(kind, b"grandchild") {
         let n = feature(field(line, 3));
         put_decision(grandchild(field(line, 1), field(line, 2), n));
         return;
     }
-    if containers::has_keyword(kind, b"enabled") {
+    if pieces::has_keyword(kind, b"enabled") {
         put_number(enabled_mask(field(line, 1)));
         return;
     }
-    if containers::has_keyword(kind, b"forecast") {
+    if pieces::has_keyword(kind, b"forecast") {
         forecast(line);
         return;
     }
