@@ -48,6 +48,7 @@ use Rattle.settled.specs.declared.ExpressionFound.the-variants as found
 use Rattle.settled.specs.declared.ListRange.{ListRange}
 use Rattle.settled.specs.declared.ListFound.{ListFound}
 use Rattle.settled.specs.declared.ListFound.the-variants as list
+use Rattle.settled.proofs.Laws.{none-left}
 
 -- bits, test by test
 module _ (b : ℕ) where
@@ -103,11 +104,6 @@ byte-at s i = go (leb (length s) i) refl
 
 pub word-is : (s : List ℕ) (i x y r : ℕ) → x ≡ headOf (drop i s) → y ≡ headOf (drop (i + 1) s) → r ≡ x + 256 * y → r ≡ wordAt s i
 word-is s i x y r e f g = rw (← (byte-at s i), ← (byte-at s (i + 1)), ← e, ← f) g
-
--- none of no expressions
-none-left : (l : List ℕ) → expressionsFrom 0 l ≡ []
-unfolding expressionsFrom
-none-left l = refl
 
 -- too few bytes for an expression
 few : (i : ℕ) (l : List ℕ) → length l < 4 → expressionsFrom i l ≡ []
