@@ -2,7 +2,7 @@
 use mathlib.Core.Path.{_≡_, refl, ap, _∙_, sym}
 use Prim.Native.Nat.{ℕ}
 use mathlib.Core.List.{List}
-use mathlib.Core.Bool.{Bool, true, false, not, _&&_}
+use mathlib.Core.Bool.{Bool, true, false, not, _&&_, and-true}
 use borrow.Author.Tests.{eq-eqb, ne-eqb, not-true, not-false}
 use Rattle.ascii.proofs.Clash.{clash}
 use Rattle.ascii.proofs.Bytes.{and-false}
@@ -75,47 +75,47 @@ other-kind kind.Subdomains kind.Any x y e = refl
 other-kind kind.Subdomains kind.Exact x y e = refl
 other-kind kind.Subdomains kind.Subdomains x y e = clash cc
 
+-- two hosts of one kind
+module _ (k : HostKind) (x y : List ℕ) where
+  pub hosts-none : k ≡ kind.None → true ≡ sameHost (hostIn k x) (hostIn k y)
+  unfolding sameHost
+  hosts-none e = rw e
+
+  pub hosts-any : k ≡ kind.Any → true ≡ sameHost (hostIn k x) (hostIn k y)
+  unfolding sameHost
+  hosts-any e = rw e
+
+  pub hosts-exact : (r : Bool) → k ≡ kind.Exact → r ≡ sameBytes x y → r ≡ sameHost (hostIn k x) (hostIn k y)
+  unfolding sameHost
+  hosts-exact r e l = rw e l
+
+  pub hosts-subdomains : (r : Bool) → k ≡ kind.Subdomains → r ≡ sameBytes x y → r ≡ sameHost (hostIn k x) (hostIn k y)
+  unfolding sameHost
+  hosts-subdomains r e l = rw e l
+
 -- two expressions by their normal forms, test by test
 module _ (x y : List ℕ) (e f : ExpressionParts) (d : Bool) (g : d ≡ sameKind (e .host) (f .host)) where
-  by-tests : (a b c : Bool) → sameScheme (e .scheme) (f .scheme) ≡ a → samePort (normalPort (e .scheme) (e .port)) (normalPort (f .scheme) (f .port)) ≡ b → sameHost (hostIn (e .host) x) (hostIn (f .host) y) ≡ c → sameExpression (normal (expressionBy e x)) (normal (expressionBy f y)) ≡ a && b && c
+  by-tests : sameExpression (normal (expressionBy e x)) (normal (expressionBy f y)) ≡ sameScheme (e .scheme) (f .scheme) && samePort (normalPort (e .scheme) (e .port)) (normalPort (f .scheme) (f .port)) && sameHost (hostIn (e .host) x) (hostIn (f .host) y)
   unfolding sameExpression normal
-  by-tests a b c u v w = rw (u, v, w)
+  by-tests = refl
 
   pub kind-differs : not d ≡ true → false ≡ sameExpression (normal (expressionBy e x)) (normal (expressionBy f y))
   kind-differs h =
-      let n : sameHost (hostIn (e .host) x) (hostIn (f .host) y) ≡ false = other-kind (e .host) (f .host) x y (sym g ∙ not-true d h) in
-      sym (by-tests _ _ _ refl refl n ∙ and-false (sameScheme (e .scheme) (f .scheme) && samePort (normalPort (e .scheme) (e .port)) (normalPort (f .scheme) (f .port))))
+      rw (by-tests, other-kind (e .host) (f .host) x y (sym g ∙ not-true d h)) (sym (and-false (sameScheme (e .scheme) (f .scheme) && samePort (normalPort (e .scheme) (e .port)) (normalPort (f .scheme) (f .port)))))
 
-  module _ (h : not d ≡ false) (a : Bool) (u : a ≡ sameScheme (e .scheme) (f .scheme)) where
-    pub scheme-differs : not a ≡ true → false ≡ sameExpression (normal (expressionBy e x)) (normal (expressionBy f y))
-    scheme-differs v = sym (by-tests false _ _ (sym u ∙ not-true a v) refl refl)
+  module _ (h : not d ≡ false) (a : Bool) (u : a ≡ sameHost (hostIn (e .host) x) (hostIn (e .host) y)) where
+    hosts : sameHost (hostIn (e .host) x) (hostIn (f .host) y) ≡ a
+    hosts =
+        let o : f .host ≡ e .host = sym (kind-is (e .host) (f .host) (sym g ∙ not-false d h)) in
+        ap (λ (i : HostKind). sameHost (hostIn (e .host) x) (hostIn i y)) o ∙ sym u
 
-    module _ (v : not a ≡ false) (p q : PortPart) (m : p ≡ normalPort (e .scheme) (e .port)) (n : q ≡ normalPort (f .scheme) (f .port)) (b : Bool) (w : b ≡ samePort p q) where
-      ports : samePort (normalPort (e .scheme) (e .port)) (normalPort (f .scheme) (f .port)) ≡ b
-      ports = rw (← m, ← n) (sym w)
+    pub hosts-differ : not a ≡ true → false ≡ sameExpression (normal (expressionBy e x)) (normal (expressionBy f y))
+    hosts-differ v = rw (by-tests, hosts, not-true a v) (sym (and-false (sameScheme (e .scheme) (f .scheme) && samePort (normalPort (e .scheme) (e .port)) (normalPort (f .scheme) (f .port)))))
 
-      pub port-differs : not b ≡ true → false ≡ sameExpression (normal (expressionBy e x)) (normal (expressionBy f y))
-      port-differs z = sym (by-tests true false _ (sym u ∙ not-false a v) (ports ∙ not-true b z) refl)
+    module _ (v : not a ≡ false) (b : Bool) (w : b ≡ sameScheme (e .scheme) (f .scheme)) where
+      pub scheme-differs : not b ≡ true → false ≡ sameExpression (normal (expressionBy e x)) (normal (expressionBy f y))
+      scheme-differs z = rw (by-tests, ← w, not-true b z)
 
-      module _ (z : not b ≡ false) where
-        at-hosts : sameExpression (normal (expressionBy e x)) (normal (expressionBy f y)) ≡ sameHost (hostIn (e .host) x) (hostIn (e .host) y)
-        at-hosts =
-            let o : f .host ≡ e .host = sym (kind-is (e .host) (f .host) (sym g ∙ not-false d h)) in
-            by-tests true true _ (sym u ∙ not-false a v) (ports ∙ not-false b z) refl ∙ ap (λ (i : HostKind). sameHost (hostIn (e .host) x) (hostIn i y)) o
-
-        pub both-none : e .host ≡ kind.None → true ≡ sameExpression (normal (expressionBy e x)) (normal (expressionBy f y))
-        unfolding sameHost
-        both-none k = rw (at-hosts, k)
-
-        pub both-any : e .host ≡ kind.Any → true ≡ sameExpression (normal (expressionBy e x)) (normal (expressionBy f y))
-        unfolding sameHost
-        both-any k = rw (at-hosts, k)
-
-        module _ (r : Bool) (l : r ≡ sameBytes x y) where
-          pub both-exact : e .host ≡ kind.Exact → r ≡ sameExpression (normal (expressionBy e x)) (normal (expressionBy f y))
-          unfolding sameHost
-          both-exact k = rw (at-hosts, k) l
-
-          pub both-subdomains : e .host ≡ kind.Subdomains → r ≡ sameExpression (normal (expressionBy e x)) (normal (expressionBy f y))
-          unfolding sameHost
-          both-subdomains k = rw (at-hosts, k) l
+      pub ports-left : not b ≡ false → (p q : PortPart) (r : Bool) → p ≡ normalPort (e .scheme) (e .port) → q ≡ normalPort (f .scheme) (f .port) → r ≡ samePort p q → r ≡ sameExpression (normal (expressionBy e x)) (normal (expressionBy f y))
+      ports-left z p q r m n l =
+          rw (by-tests, ← w, not-false b z, hosts, not-false a v, ← m, ← n) (l ∙ sym (and-true (samePort p q)))

@@ -11,8 +11,8 @@ ghost use Rattle.origins.specs.Origins.{schemeSlashes, pastScheme, start
 ghost use Rattle.origins.specs.Expressions.{schemeSource, startsLowered, hostPartOf, hostSourceOf, expressionOf};
 ghost use Rattle.origins.specs.Steps.{fold, portNumber, digitsAs, portAs, hostAs, sameKind};
 ghost use Rattle.origins.specs.Matching.{sameScheme, schemeAdmits, endsIn, portAdmits, admitsTuple, admits, sameTuple, sameOrigin};
-ghost use Rattle.origins.specs.Answers.{originAs, sourceAs, tupleIn, originIn, expressionIn, expressionBy, tupleBy, IsPortText};
-ghost use Rattle.origins.specs.NormalForms.{normalPort, normal, samePort, sameExpression};
+ghost use Rattle.origins.specs.Answers.{originAs, sourceAs, tupleIn, originIn, hostIn, expressionIn, expressionBy, tupleBy, IsPortText};
+ghost use Rattle.origins.specs.NormalForms.{normalPort, normal, sameHost, samePort, sameExpression};
 use ascii::Class;
 use limits::HOST_BYTES;
 use limits::LAST_PORT;
@@ -669,6 +669,18 @@ fn same_port(a: PortPart, b: PortPart) -> bool
     }
 }
 
+// Whether two hosts of one kind are the same.
+fn same_hosts(kind: HostKind, x: &[u8], y: &[u8]) -> bool
+    ensures { λ r. ⌜ r ≡ sameHost (hostIn kind (now (x .entry))) (hostIn kind (now (y .entry))) ⌝ }
+{
+    match kind {
+        HostKind::None => true,
+        HostKind::Any => true,
+        HostKind::Exact => ascii::same(x, y),
+        HostKind::Subdomains => ascii::same(x, y),
+    }
+}
+
 // Whether two expressions, by their parts and beside the texts of their hosts, have the same normal form.
 pub fn same_parts(e: ExpressionParts, x: &[u8], f: ExpressionParts, y: &[u8]) -> bool
     ensures { λ r. ⌜ r ≡ sameExpression (normal (expressionBy e (now (x .entry)))) (normal (expressionBy f (now (y .entry)))) ⌝ }
@@ -678,6 +690,9 @@ pub fn same_parts(e: ExpressionParts, x: &[u8], f: ExpressionParts, y: &[u8]) ->
     if !same_kind(kind, other) {
         return false;
     }
+    if !same_hosts(kind, x, y) {
+        return false;
+    }
     let k = e.scheme;
     let j = f.scheme;
     if !same_scheme(k, j) {
@@ -685,13 +700,5 @@ pub fn same_parts(e: ExpressionParts, x: &[u8], f: ExpressionParts, y: &[u8]) ->
     }
     let p = e.port;
     let q = f.port;
-    if !same_port(normal_port(k, p), normal_port(j, q)) {
-        return false;
-    }
-    match kind {
-        HostKind::None => true,
-        HostKind::Any => true,
-        HostKind::Exact => ascii::same(x, y),
-        HostKind::Subdomains => ascii::same(x, y),
-    }
+    same_port(normal_port(k, p), normal_port(j, q))
 }

@@ -5,6 +5,6 @@ use mathlib.Core.List.{List, []}
 use Rattle.settled.specs.Settled.{expressionsFrom}
 
 -- none of no expressions; one more than so many is `says` of `IsExpressionAt`
-pub none-left : (l : List ℕ) → expressionsFrom 0 l ≡ []
+pub from-none : (l : List ℕ) → expressionsFrom 0 l ≡ []
 unfolding expressionsFrom
-none-left l = refl
+from-none l = refl

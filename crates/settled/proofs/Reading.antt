@@ -48,7 +48,7 @@ use Rattle.settled.specs.declared.ExpressionFound.the-variants as found
 use Rattle.settled.specs.declared.ListRange.{ListRange}
 use Rattle.settled.specs.declared.ListFound.{ListFound}
 use Rattle.settled.specs.declared.ListFound.the-variants as list
-use Rattle.settled.proofs.Laws.{none-left}
+use Rattle.settled.proofs.Laws.{from-none}
 
 -- bits, test by test
 module _ (b : ℕ) where
@@ -202,7 +202,7 @@ high-next r e k = rw k
 -- a walk that looks for an expression that admits a tuple origin
 module _ (d : List ℕ) (o : TupleParts) (h : List ℕ) (R : Bool) (p left : ℕ) (so-far : anyAdmits (expressionsFrom left (drop p d)) (tuple (tupleBy o h)) ≡ R) where
   pub walk-end : left ≤ 0 → false ≡ R
-  walk-end g = let z : left ≡ 0 = omega arith in sym (any-nil (tuple (tupleBy o h))) ∙ (rw (z, none-left (drop p d)) at so-far)
+  walk-end g = let z : left ≡ 0 = omega arith in sym (any-nil (tuple (tupleBy o h))) ∙ (rw (z, from-none (drop p d)) at so-far)
 
   module _ (f : ExpressionFound) (is : (i : ℕ) → expressionsFrom (suc i) (drop p d) ≡ restFrom i d f) (more : 0 < left) where
     here : anyAdmits (restFrom (left - 1) d f) (tuple (tupleBy o h)) ≡ R

@@ -21,7 +21,7 @@ use Rattle.settled.specs.Answers.{settledIn, restFrom, IsExpressionAt}
 use Rattle.settled.specs.declared.SettledExpression.{SettledExpression}
 use Rattle.settled.specs.declared.ExpressionFound.{ExpressionFound}
 use Rattle.settled.specs.declared.ExpressionFound.the-variants as found
-use Rattle.settled.proofs.Laws.{none-left}
+use Rattle.settled.proofs.Laws.{from-none}
 use Rattle.tidying.specs.Tidied.{among, unless, onceAfter, sourceItem}
 use Rattle.tidying.specs.Writing.{Adding}
 use Rattle.tidying.specs.Steps.{Spelling, sourceText, sourceTexts, newText}
@@ -33,7 +33,7 @@ use Rattle.tidying.proofs.Spellings.{spelling-none, spelling-one, spell
 module _ (d : List ℕ) (e : ExpressionParts) (h : List ℕ) (R : Bool) (p left : ℕ) (so-far : among (normal (expressionBy e h)) (map normal (expressionsFrom left (drop p d))) ≡ R) where
   pub seen-end : left ≤ 0 → false ≡ R
   unfolding among
-  seen-end g = let z : left ≡ 0 = omega arith in rw (z, none-left (drop p d)) at so-far
+  seen-end g = let z : left ≡ 0 = omega arith in rw (z, from-none (drop p d)) at so-far
 
   module _ (r : ExpressionFound) (is : IsExpressionAt d p r) (more : 0 < left) where
     here : among (normal (expressionBy e h)) (map normal (restFrom (left - 1) d r)) ≡ R
@@ -113,7 +113,7 @@ pub record Passed (d : List ℕ) (first i p : ℕ) : Type 0 where
   pub is : (k : ℕ) → expressionsFrom (i + k) (drop first d) ≡ expressionsFrom i (drop first d) ++ expressionsFrom k (drop p d)
 
 pub passed-start : (d : List ℕ) (first : ℕ) → Passed d first 0 first
-passed-start d first = record { is = λ k. rw (zero-add k, none-left (drop first d)) }
+passed-start d first = record { is = λ k. rw (zero-add k, from-none (drop first d)) }
 
 module _ (d : List ℕ) (first i p : ℕ) (g : Passed d first i p) (r : ExpressionFound) (a : IsExpressionAt d p r) where
   module _ (e : SettledExpression) (k : r ≡ found.Expression e) where
@@ -124,7 +124,7 @@ module _ (d : List ℕ) (first i p : ℕ) (g : Passed d first i p) (r : Expressi
         rw z (g .is (suc j) ∙ ap (λ (es : List SourceExpression). expressionsFrom i (drop first d) ++ es) f)
 
     one-more : expressionsFrom (i + 1) (drop first d) ≡ expressionsFrom i (drop first d) ++ (settledIn d e ∷ [])
-    one-more = let z : i + 1 + 0 ≡ i + 1 = omega arith in rw (z, none-left (drop (e .to) d)) at (said 0)
+    one-more = let z : i + 1 + 0 ≡ i + 1 = omega arith in rw (z, from-none (drop (e .to) d)) at (said 0)
 
     pub passed-on : Passed d first (i + 1) (e .to)
     passed-on = record { is = λ j. said j ∙ (rw one-more (sym (append-assoc (expressionsFrom i (drop first d)) (settledIn d e ∷ []) (expressionsFrom j (drop (e .to) d))))) }
@@ -145,7 +145,7 @@ module _ (d : List ℕ) (first i p : ℕ) (g : Passed d first i p) (r : Expressi
 
 -- none yet, and all
 pub listing-start : (d : List ℕ) (first : ℕ) (l : List ℕ) (at : ℕ) (any : Bool) → Spelling (text " ") l at any (sourceTexts (expressionsFrom 0 (drop first d))) l (record { to = at; any = any })
-listing-start d first l at any = rw (none-left (drop first d), texts-none) (spelling-none (text " ") l at any)
+listing-start d first l at any = rw (from-none (drop first d), texts-none) (spelling-none (text " ") l at any)
 
 pub listing-end : (d : List ℕ) (first i count : ℕ) (l : List ℕ) (at : ℕ) (any : Bool) (m : List ℕ) (x : Added) → i ≤ count → count ≤ i → Spelling (text " ") l at any (sourceTexts (expressionsFrom i (drop first d))) m x → Spelling (text " ") l at any (sourceTexts (expressionsFrom count (drop first d))) m x
 listing-end d first i count l at any m x h k v = let z : count ≡ i = omega arith in rw z v

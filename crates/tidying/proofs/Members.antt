@@ -99,9 +99,9 @@ from-more d i h =
     let q : featureCount - i ≡ suc (featureCount - (i + 1)) = omega arith in
     rw (q, add-one i)
 
-from-none : (d : ℕ → Option Allowlist) (i : ℕ) → featureCount ≤ i → tidyFrom d i (featureCount - i) ≡ []
+from-past : (d : ℕ → Option Allowlist) (i : ℕ) → featureCount ≤ i → tidyFrom d i (featureCount - i) ≡ []
 unfolding tidyFrom
-from-none d i h = let q : featureCount - i ≡ 0 = omega arith in rw q
+from-past d i h = let q : featureCount - i ≡ 0 = omega arith in rw q
 
 module _ (d : List ℕ) (i : ℕ) (l m : List ℕ) (x : Added) (g : Filling d i l m x) where
   pub filling-on : (n : List ℕ) (y : Added) → i < featureCount → Spelling (text ", ") m (x .to) (x .any) (map memberText (withMember i (declaredIn d i) [])) n y → Filling d (i + 1) l n y
@@ -118,6 +118,6 @@ module _ (d : List ℕ) (i : ℕ) (l m : List ℕ) (x : Added) (g : Filling d i 
   pub filling-end : featureCount ≤ i → Adding l 0 (written (tidyMembers (declaredIn d))) m (x .to)
   unfolding following
   filling-end h =
-      let e : g .texts ++ [] ≡ map memberText (tidyMembers (declaredIn d)) = rw (from-none (declaredIn d) i h) at (g .rest) in
+      let e : g .texts ++ [] ≡ map memberText (tidyMembers (declaredIn d)) = rw (from-past (declaredIn d) i h) at (g .rest) in
       let f : g .texts ≡ map memberText (tidyMembers (declaredIn d)) = sym (append-nil (g .texts)) ∙ e in
       rw members-text (rw f at (g .spelt .text))

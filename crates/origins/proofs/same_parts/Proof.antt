@@ -1,5 +1,5 @@
--- `same_parts` is right: kind of host, scheme, port and host are compared, each as the definition does.
-use Rattle.origins.proofs.NormalForms.{kind-differs, scheme-differs, port-differs, both-none, both-any, both-exact, both-subdomains}
+-- `same_parts` is right: kind of host, host, scheme and port are compared, each as the definition does.
+use Rattle.origins.proofs.NormalForms.{kind-differs, hosts-differ, scheme-differs, ports-left}
 use borrow.Author.Needs.{needs}
 use Rattle.origins.proofs.same_parts.Statement.{statement}
 use Rattle.origins.proofs.same_parts.Tie as tie
@@ -11,18 +11,10 @@ same-parts-spec =
     (λ c κs. search needs)
     (λ c. search kind-differs)
     (λ c κs. search needs)
+    (λ c. search hosts-differ)
+    (λ c κs. search needs)
     (λ c. search scheme-differs)
     (λ c κs. search needs)
     (λ c κs. search needs)
     (λ c κs. search needs)
-    (λ c. search port-differs)
-    (λ c. search needs)
-    (λ c. search needs)
-    (λ c. search needs)
-    (λ c κs. search needs)
-    (λ c. search needs)
-    (λ c κs. search needs)
-    (λ c. search both-none)
-    (λ c. search both-any)
-    (λ c. search both-exact)
-    (λ c. search both-subdomains))
+    (λ c. search ports-left))
