@@ -1,12 +1,13 @@
 -- The laws of declarations, for the crates above, which open no definition of this crate; `Meanings`, `Written` and `Few` are parts of them. Assumes nothing.
 use mathlib.Core.Path.{_≡_, refl, ap, _∙_, sym}
-use Prim.Native.Nat.{ℕ}
+use Prim.Native.Nat.{ℕ, _≤_}
 use mathlib.Core.List.{List, [], _∷_, _++_, map}
 use mathlib.Core.Bool.{Bool, true, false, not, _||_}
 use mathlib.Core.Option.{Option, some, none}
 use Rattle.ascii.specs.Bytes.{pick}
 use Rattle.ascii.proofs.Clash.{clash}
-use Rattle.features.specs.Features.{nameOf}
+use Rattle.features.specs.Features.{featureCount, nameOf}
+use Rattle.features.proofs.Laws.{name-none}
 use Rattle.origins.specs.Origins.{Origin}
 use Rattle.origins.specs.Origins.Origin.{opaque, fresh}
 use Rattle.origins.specs.Expressions.{SourceExpression}
@@ -17,6 +18,7 @@ use Rattle.dictionaries.specs.Dictionaries.{Value, Plain, members}
 use Rattle.dictionaries.specs.Dictionaries.Value.{one, many}
 use Rattle.dictionaries.specs.Lookup.{lastValueIn, isSome}
 use Rattle.dictionaries.specs.OneItemMore.{OneItemMore}
+use Rattle.dictionaries.proofs.Keys.{no-empty-key}
 use Rattle.dictionaries.proofs.Laws.{some-is, empty-members, last-of-empty, last-of-none, Grown, LastGrown, last-grown}
 use Rattle.dictionaries.proofs.Laws.Grown.{same, grown}
 use Rattle.allowlists.specs.Allowlists.{Allowlist, Meaning, allowlistOf, listAdmits, someAdmits}
@@ -66,6 +68,10 @@ lone-cases src = counted
 lone-cases (source e) = counted
 lone-cases nothing = ignored refl
 
+pub lone-nothing : loneDeclares nothing ≡ none
+unfolding loneDeclares
+lone-nothing = refl
+
 -- a header that is no dictionary is malformed
 pub malformed-is : (s : List ℕ) (b : Bool) → b ≡ isSome (members s) → not b ≡ isMalformed s
 unfolding isMalformed
@@ -91,6 +97,16 @@ malformed-declares s n e = go (members s) refl
     go : (d : Option (List Plain)) → members s ≡ d → lastDeclares (lastValueIn (nameOf n) d) ≡ none
     go (some ms) f = let g : isMalformed s ≡ false = members-good s ms f in clash cc
     go none f = rw (last-of-none (nameOf n)) last-malformed
+
+-- a number over 16 is declared by no header
+pub declares-past : (s : List ℕ) (n : ℕ) → featureCount ≤ n → declares s n ≡ none
+unfolding declares
+declares-past s n h = rw (name-none n h) (go (lastValueIn [] (members s)) refl)
+  where
+    go : (o : Option (Option Value)) → lastValueIn [] (members s) ≡ o → lastDeclares o ≡ none
+    go (some (some v)) e = absurd (no-empty-key s v e)
+    go (some none) e = last-none
+    go none e = last-malformed
 
 -- whether what is declared admits an origin
 pub declared-some : (l : Allowlist) (own o : Origin) → declaredAdmits (some l) own o ≡ some (listAdmits l (sameOrigin own o) false o)

@@ -112,7 +112,7 @@ declares-good s n a b es e =
     s n (listed a b es) e a b es refl
 
 -- "`self` is the document's own origin": a header's list has no src-origin
-no-src : (xs : List Item) → hasSrc (map itemMeaning xs) ≡ false
+pub no-src : (xs : List Item) → hasSrc (map itemMeaning xs) ≡ false
 no-src [] = has-nil isSrc
 no-src (x ∷ xs) = go (itemMeaning x) refl (no-src xs)
   where

@@ -11,3 +11,4 @@ pub mod Laws
 pub mod ReadBack
 pub mod OneItemMoreExamples
 pub mod WrittenExamples
+pub mod Keys

@@ -5,3 +5,4 @@ pub mod Spellings
 pub mod Listing
 pub mod Members
 pub mod RoundTrip
+pub mod Answering

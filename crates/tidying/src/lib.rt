@@ -25,8 +25,10 @@ use origins::HostKind;
 use origins::PortPart;
 use origins::Scheme;
 use settled::ExpressionFound;
+use settled::HEAD;
 use settled::ListFound;
 use settled::ListRange;
+use settling::Settled;
 
 // The length of the tidied form, or a refusal.
 pub enum TidyAnswer {
@@ -295,4 +297,30 @@ fn fill(d: &[u8], buf: &mut [u8]) -> usize
         i += 1;
     }
     n.to
+}
+
+// Tidies a header into a lent run.
+pub fn tidy(s: &[u8], out: &mut [u8]) -> TidyAnswer
+    ensures { λ r. ⌜ IsTidied (now (s .entry)) (now (out .entry)) (now (out .exit)) r ⌝ }
+{
+    let mut d = [0u8; HEAD + TEXT_BYTES];
+    match settling::settle(s, &mut d) {
+        Settled::TooLong => TidyAnswer::Refused(Refusal::TooLong), // the input
+        Settled::Small => TidyAnswer::Refused(Refusal::Small), // never: there is room for every header
+        Settled::Header(f) => {
+            if f.malformed {
+                return TidyAnswer::Refused(Refusal::NotADictionary);
+            }
+            let mut buf = [0u8; TEXT_BYTES];
+            let n = fill(&d, &mut buf);
+            if TEXT_BYTES < n {
+                return TidyAnswer::Refused(Refusal::TooLong); // the output
+            }
+            if out.len() < n {
+                return TidyAnswer::Refused(Refusal::Small);
+            }
+            let to = put(out, 0, &buf[..n]);
+            TidyAnswer::Length(to)
+        }
+    }
 }

@@ -1,0 +1,5 @@
+pub mod Writes
+pub mod Listing
+pub mod Sizes
+pub mod Documents
+pub mod Members
