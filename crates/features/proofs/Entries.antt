@@ -6,7 +6,7 @@ use mathlib.Core.Option.{Option, some, none}
 use Prim.Native.Nat.{ℕ, _+_, _<_, _≤_}
 use native.Mathlib.Omega.{arith}
 use native.Mathlib.Numerals.{add-one}
-use lib.ListN.{length, getD, drop, drop-of-length-le}
+use lib.ListN.{length, getD, take, drop, drop-of-length-le}
 use lib.Seq.{drop-cons}
 use borrow.Author.Needs.{needs}
 use Rattle.ascii.specs.Bytes.{pick}
@@ -34,6 +34,16 @@ entry-at t d n e h =
     let g : n < length features = omega (arith, rows) in
     rw (e, map-at entryAs noRow d features n g)
     (row-entry n (getD features n noRow) (map-at rowName noRow [] features n g) (map-some rowDefault noRow features n g))
+
+-- so its bytes up to its length are the name of its number
+module _ (t : List Feature) (d : Feature) (n : ℕ) (e : t ≡ map entryAs features) (h : n < featureCount) where
+  pub entry-fits : getD t n d .len ≤ length (getD t n d .name)
+  entry-fits =
+      let i : IsEntry n (getD t n d) = entry-at t d n e h in
+      rw (i .name, i .len, padded-length (nameOf n) (name-short n)) (name-short n)
+
+  pub entry-name : take (getD t n d .len) (getD t n d .name) ≡ nameOf n
+  entry-name = let i : IsEntry n (getD t n d) = entry-at t d n e h in rw (i .name, i .len) (padded-take (nameOf n))
 
 -- an entry's default list, by its case
 pub default-star : (d : DefaultAllowlist) (n : ℕ) → d ≡ All → some (listIn d) ≡ defaultOf n → some star ≡ defaultOf n
@@ -63,16 +73,20 @@ unfolding featureOf
 find-start word = refl
 
 module _ (word : List ℕ) (n : ℕ) (r : Option ℕ) where
-  pub find-here : (t : Bool) → t ≡ sameBytes word (nameOf n) → t ≡ true → n < featureCount → placeFrom n word (drop n names) ≡ r → some n ≡ r
-  unfolding nameOf placeFrom pick
-  find-here t a b h e = rw (drop-cons names n [] (omega (arith, count)), sym a ∙ b) at e
+  module _ (t : List Feature) (d : Feature) (k : t ≡ map entryAs features) (h : n < featureCount) (b : Bool) (a : b ≡ sameBytes word (take (getD t n d .len) (getD t n d .name))) (e : placeFrom n word (drop n names) ≡ r) where
+    same : sameBytes word (nameOf n) ≡ b
+    same = rw (← (entry-name t d n k h)) (sym a)
 
-  pub find-more : (t : Bool) → t ≡ sameBytes word (nameOf n) → t ≡ false → n < featureCount → placeFrom n word (drop n names) ≡ r → placeFrom (n + 1) word (drop (n + 1) names) ≡ r
-  unfolding nameOf placeFrom pick
-  find-more t a b h e = simp add-one (rw (drop-cons names n [] (omega (arith, count)), sym a ∙ b) at e)
+    pub find-here : b ≡ true → some n ≡ r
+    unfolding nameOf placeFrom pick
+    find-here g = rw (drop-cons names n [] (omega (arith, count)), same ∙ g) at e
+
+    pub find-more : b ≡ false → placeFrom (n + 1) word (drop (n + 1) names) ≡ r
+    unfolding nameOf placeFrom pick
+    find-more g = simp add-one (rw (drop-cons names n [] (omega (arith, count)), same ∙ g) at e)
 
   pub find-end : featureCount ≤ n → placeFrom n word (drop n names) ≡ r → none ≡ r
   unfolding placeFrom
   find-end h e = rw (drop-of-length-le names {i = n} (omega (arith, count))) at e
 
-pub ruleset finds = (find-start, find-here, find-more, find-end, needs)
+pub ruleset finds = (find-start, entry-fits, find-here, find-more, find-end, needs)

@@ -1,9 +1,10 @@
 // The seventeen features: their numbers, names and default allowlists.
 ghost use mathlib.Core.Path.{_≡_};
 ghost use mathlib.Core.List.{map};
-ghost use Prim.Native.Nat.{_<_};
+ghost use Prim.Native.Nat.{_<_, _≤_};
+ghost use lib.ListN.{length, take};
 ghost use Rattle.ascii.specs.Texts.{sameBytes};
-ghost use Rattle.features.specs.Features.{featureCount, features, nameOf, defaultOf};
+ghost use Rattle.features.specs.Features.{featureCount, features, defaultOf};
 ghost use Rattle.features.specs.Answers.{entryAs, defaultIn, IsEntry, IsName, IsLookup};
 
 // How many features there are.
@@ -176,13 +177,13 @@ pub fn default_of(n: u32) -> DefaultOf
     }
 }
 
-// Whether a word is the name of a feature.
-fn is_name_of(n: u32, word: &[u8]) -> bool
-    ensures { λ r. ⌜ r ≡ sameBytes (now (word .entry)) (nameOf n) ⌝ }
+// Whether a word is the name of an entry.
+fn is_named(e: Feature, word: &[u8]) -> bool
+    requires { ⌜ e .len ≤ length (e .name) ⌝ }
+    ensures { λ r. ⌜ r ≡ sameBytes (now (word .entry)) (take (e .len) (e .name)) ⌝ }
 {
-    let name = name_of(n);
-    let bytes = name.bytes;
-    let len = name.len;
+    let bytes = e.name;
+    let len = e.len;
     ascii::same(word, &bytes[..len])
 }
 
@@ -196,9 +197,10 @@ pub enum Lookup {
 pub fn feature_of(word: &[u8]) -> Lookup
     ensures { λ r. ⌜ IsLookup (now (word .entry)) r ⌝ }
 {
+    let t = table();
     let mut n: u32 = 0;
     while (n as usize) < COUNT {
-        if is_name_of(n, word) {
+        if is_named(t[n as usize], word) {
             return Lookup::Known(n);
         }
         n += 1;

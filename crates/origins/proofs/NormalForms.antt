@@ -1,27 +1,24 @@
 -- Comparing normal forms, in the terms of the code. Assumes nothing.
-use mathlib.Core.Path.{_≡_, refl, _∙_, sym}
-use Prim.Native.Nat.{ℕ, zero, suc, _+_, _≤_, _<_}
-use mathlib.Core.List.{List, [], _∷_}
-use mathlib.Core.Bool.{Bool, true, false, not}
-use native.Mathlib.Omega.{arith}
-use lib.ListN.{length, getD, drop}
+use mathlib.Core.Path.{_≡_, refl, ap, _∙_, sym}
+use Prim.Native.Nat.{ℕ}
+use mathlib.Core.List.{List}
+use mathlib.Core.Bool.{Bool, true, false, not, _&&_, and-true}
 use borrow.Author.Tests.{eq-eqb, ne-eqb, not-true, not-false}
 use Rattle.ascii.proofs.Clash.{clash}
-use Rattle.ascii.specs.Bytes.{pick, lower}
-use Rattle.ascii.specs.Texts.{each, lowered, sameBy, sameBytes, sameLowered, partOf}
-use Rattle.ascii.proofs.Texts.{same-each, same-end, same-long, same-short, same-more, same-ne}
+use Rattle.ascii.proofs.Bytes.{and-false}
+use Rattle.ascii.specs.Bytes.{pick}
+use Rattle.ascii.specs.Texts.{sameBytes}
 use Rattle.origins.specs.Ports.{defaultPort}
 use Rattle.origins.specs.Matching.{sameScheme}
 use Rattle.origins.specs.NormalForms.{normalPort, normal, sameHost, samePort, sameExpression}
-use Rattle.origins.specs.Answers.{expressionIn, hostIn}
+use Rattle.origins.specs.Answers.{expressionBy, hostIn}
 use Rattle.origins.specs.Steps.{sameKind}
 use Rattle.origins.specs.declared.Scheme.{Scheme}
 use Rattle.origins.specs.declared.PortPart.{PortPart}
 use Rattle.origins.specs.declared.PortPart.the-variants.{Default, Any, Number}
 use Rattle.origins.specs.declared.HostKind.{HostKind}
 use Rattle.origins.specs.declared.HostKind.the-variants as kind
-use Rattle.origins.specs.declared.ExpressionRange.{ExpressionRange}
-use Rattle.origins.proofs.Steps.{each-length}
+use Rattle.origins.specs.declared.ExpressionParts.{ExpressionParts}
 
 -- the port of a normal form, case by case
 module _ (k : Scheme) (p : PortPart) where
@@ -40,34 +37,6 @@ module _ (k : Scheme) (p : PortPart) where
   pub normal-kept : (n q : ℕ) → q ≡ defaultPort k → (n ≡ q → ⊥) → p ≡ Number n → Number n ≡ normalPort k p
   unfolding normalPort pick
   normal-kept n q d h e = rw (e, ne-eqb n (defaultPort k) (λ z. h (z ∙ sym d)))
-
--- bytes of a text in lower case
-getD-each : (f : ℕ → ℕ) (b : List ℕ) (i : ℕ) → i < length b → getD (each f b) i 0 ≡ f (getD b i 0)
-unfolding each
-getD-each f [] i h = absurd (omega arith)
-getD-each f (x ∷ b) zero h = refl
-getD-each f (x ∷ b) (suc i) h = getD-each f b i (omega arith)
-
--- comparing in any case, one place after the other
-module _ (a b : List ℕ) (i : ℕ) (r : Bool) (so-far : sameBy lower (drop i a) (drop i (lowered b)) ≡ r) where
-  pub case-end : length a ≤ i → length b ≤ i → true ≡ r
-  case-end h g = same-end lower a (lowered b) i r h (omega (arith, each-length lower b)) so-far
-
-  pub case-long : length a ≤ i → i < length b → false ≡ r
-  case-long h g = same-long lower a (lowered b) i r h (omega (arith, each-length lower b)) so-far
-
-  pub case-short : i < length a → length b ≤ i → false ≡ r
-  case-short h g = same-short lower a (lowered b) i r h (omega (arith, each-length lower b)) so-far
-
-  module _ (x y : ℕ) (u : x ≡ lower (getD a i 0)) (v : y ≡ lower (getD b i 0)) (h : i < length a) (g : i < length b) where
-    there : i < length (lowered b)
-    there = omega (arith, each-length lower b)
-
-    pub case-more : x ≡ y → sameBy lower (drop (i + 1) a) (drop (i + 1) (lowered b)) ≡ r
-    case-more q = same-more lower a (lowered b) i r x u h there (q ∙ (v ∙ sym (getD-each lower b i g))) so-far
-
-    pub case-ne : (x ≡ y → ⊥) → false ≡ r
-    case-ne q = same-ne lower a (lowered b) i r x u h there (λ z. q (z ∙ (getD-each lower b i g ∙ sym v))) so-far
 
 kind-is : (a b : HostKind) → sameKind a b ≡ true → a ≡ b
 kind-is kind.None kind.None e = refl
@@ -106,48 +75,47 @@ other-kind kind.Subdomains kind.Any x y e = refl
 other-kind kind.Subdomains kind.Exact x y e = refl
 other-kind kind.Subdomains kind.Subdomains x y e = clash cc
 
+-- two hosts of one kind
+module _ (k : HostKind) (x y : List ℕ) where
+  pub hosts-none : k ≡ kind.None → true ≡ sameHost (hostIn k x) (hostIn k y)
+  unfolding sameHost
+  hosts-none e = rw e
+
+  pub hosts-any : k ≡ kind.Any → true ≡ sameHost (hostIn k x) (hostIn k y)
+  unfolding sameHost
+  hosts-any e = rw e
+
+  pub hosts-exact : (r : Bool) → k ≡ kind.Exact → r ≡ sameBytes x y → r ≡ sameHost (hostIn k x) (hostIn k y)
+  unfolding sameHost
+  hosts-exact r e l = rw e l
+
+  pub hosts-subdomains : (r : Bool) → k ≡ kind.Subdomains → r ≡ sameBytes x y → r ≡ sameHost (hostIn k x) (hostIn k y)
+  unfolding sameHost
+  hosts-subdomains r e l = rw e l
+
 -- two expressions by their normal forms, test by test
-module _ (s t : List ℕ) (e f : ExpressionRange) (a : Bool) (u : a ≡ sameScheme (e .scheme) (f .scheme)) where
-  pub scheme-differs : not a ≡ true → false ≡ sameExpression (normal (expressionIn s e)) (normal (expressionIn t f))
+module _ (x y : List ℕ) (e f : ExpressionParts) (d : Bool) (g : d ≡ sameKind (e .host) (f .host)) where
+  by-tests : sameExpression (normal (expressionBy e x)) (normal (expressionBy f y)) ≡ sameScheme (e .scheme) (f .scheme) && samePort (normalPort (e .scheme) (e .port)) (normalPort (f .scheme) (f .port)) && sameHost (hostIn (e .host) x) (hostIn (f .host) y)
   unfolding sameExpression normal
-  scheme-differs v = rw (← u, not-true a v)
+  by-tests = refl
 
-  module _ (v : not a ≡ false) (p q : PortPart) (m : p ≡ normalPort (e .scheme) (e .port)) (n : q ≡ normalPort (f .scheme) (f .port)) (b : Bool) (w : b ≡ samePort p q) where
-    ports : samePort (normalPort (e .scheme) (e .port)) (normalPort (f .scheme) (f .port)) ≡ b
-    ports = rw (← m, ← n) (sym w)
+  pub kind-differs : not d ≡ true → false ≡ sameExpression (normal (expressionBy e x)) (normal (expressionBy f y))
+  kind-differs h =
+      rw (by-tests, other-kind (e .host) (f .host) x y (sym g ∙ not-true d h)) (sym (and-false (sameScheme (e .scheme) (f .scheme) && samePort (normalPort (e .scheme) (e .port)) (normalPort (f .scheme) (f .port)))))
 
-    pub port-differs : not b ≡ true → false ≡ sameExpression (normal (expressionIn s e)) (normal (expressionIn t f))
-    unfolding sameExpression normal
-    port-differs z = rw (← u, not-false a v, ports, not-true b z)
+  module _ (h : not d ≡ false) (a : Bool) (u : a ≡ sameHost (hostIn (e .host) x) (hostIn (e .host) y)) where
+    hosts : sameHost (hostIn (e .host) x) (hostIn (f .host) y) ≡ a
+    hosts =
+        let o : f .host ≡ e .host = sym (kind-is (e .host) (f .host) (sym g ∙ not-false d h)) in
+        ap (λ (i : HostKind). sameHost (hostIn (e .host) x) (hostIn i y)) o ∙ sym u
 
-    module _ (z : not b ≡ false) (d : Bool) (g : d ≡ sameKind (e .host) (f .host)) where
-      at-hosts : sameExpression (normal (expressionIn s e)) (normal (expressionIn t f)) ≡ sameHost (hostIn (e .host) (lowered (partOf s (e .from) (e .to)))) (hostIn (f .host) (lowered (partOf t (f .from) (f .to))))
-      unfolding sameExpression normal
-      at-hosts = rw (← u, not-false a v, ports, not-false b z)
+    pub hosts-differ : not a ≡ true → false ≡ sameExpression (normal (expressionBy e x)) (normal (expressionBy f y))
+    hosts-differ v = rw (by-tests, hosts, not-true a v) (sym (and-false (sameScheme (e .scheme) (f .scheme) && samePort (normalPort (e .scheme) (e .port)) (normalPort (f .scheme) (f .port)))))
 
-      pub kind-differs : not d ≡ true → false ≡ sameExpression (normal (expressionIn s e)) (normal (expressionIn t f))
-      kind-differs h = sym (at-hosts ∙ other-kind (e .host) (f .host) (lowered (partOf s (e .from) (e .to))) (lowered (partOf t (f .from) (f .to))) (sym g ∙ not-true d h))
+    module _ (v : not a ≡ false) (b : Bool) (w : b ≡ sameScheme (e .scheme) (f .scheme)) where
+      pub scheme-differs : not b ≡ true → false ≡ sameExpression (normal (expressionBy e x)) (normal (expressionBy f y))
+      scheme-differs z = rw (by-tests, ← w, not-true b z)
 
-      module _ (h : not d ≡ false) where
-        other : e .host ≡ f .host
-        other = kind-is (e .host) (f .host) (sym g ∙ not-false d h)
-
-        pub both-none : e .host ≡ kind.None → true ≡ sameExpression (normal (expressionIn s e)) (normal (expressionIn t f))
-        unfolding sameHost
-        both-none k = rw (at-hosts, ← other, k)
-
-        pub both-any : e .host ≡ kind.Any → true ≡ sameExpression (normal (expressionIn s e)) (normal (expressionIn t f))
-        unfolding sameHost
-        both-any k = rw (at-hosts, ← other, k)
-
-        module _ (x y : List ℕ) (i : x ≡ partOf s (e .from) (e .to)) (j : y ≡ partOf t (f .from) (f .to)) (r : Bool) (l : r ≡ sameLowered x (lowered y)) where
-          hosts : r ≡ sameBytes (lowered (partOf s (e .from) (e .to))) (lowered (partOf t (f .from) (f .to)))
-          hosts = rw (← i, ← j) (l ∙ same-each lower x (lowered y))
-
-          pub both-exact : e .host ≡ kind.Exact → r ≡ sameExpression (normal (expressionIn s e)) (normal (expressionIn t f))
-          unfolding sameHost
-          both-exact k = rw (at-hosts, ← other, k) hosts
-
-          pub both-subdomains : e .host ≡ kind.Subdomains → r ≡ sameExpression (normal (expressionIn s e)) (normal (expressionIn t f))
-          unfolding sameHost
-          both-subdomains k = rw (at-hosts, ← other, k) hosts
+      pub ports-left : not b ≡ false → (p q : PortPart) (r : Bool) → p ≡ normalPort (e .scheme) (e .port) → q ≡ normalPort (f .scheme) (f .port) → r ≡ samePort p q → r ≡ sameExpression (normal (expressionBy e x)) (normal (expressionBy f y))
+      ports-left z p q r m n l =
+          rw (by-tests, ← w, not-false b z, hosts, not-false a v, ← m, ← n) (l ∙ sym (and-true (samePort p q)))

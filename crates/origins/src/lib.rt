@@ -11,8 +11,8 @@ ghost use Rattle.origins.specs.Origins.{schemeSlashes, pastScheme, start
 ghost use Rattle.origins.specs.Expressions.{schemeSource, startsLowered, hostPartOf, hostSourceOf, expressionOf};
 ghost use Rattle.origins.specs.Steps.{fold, portNumber, digitsAs, portAs, hostAs, sameKind};
 ghost use Rattle.origins.specs.Matching.{sameScheme, schemeAdmits, endsIn, portAdmits, admitsTuple, admits, sameTuple, sameOrigin};
-ghost use Rattle.origins.specs.Answers.{originAs, sourceAs, tupleIn, originIn, expressionIn, expressionBy, tupleBy, IsPortText};
-ghost use Rattle.origins.specs.NormalForms.{normalPort, normal, samePort, sameExpression};
+ghost use Rattle.origins.specs.Answers.{originAs, sourceAs, tupleIn, originIn, hostIn, expressionIn, expressionBy, tupleBy, IsPortText};
+ghost use Rattle.origins.specs.NormalForms.{normalPort, normal, sameHost, samePort, sameExpression};
 use ascii::Class;
 use limits::HOST_BYTES;
 use limits::LAST_PORT;
@@ -669,29 +669,30 @@ fn same_port(a: PortPart, b: PortPart) -> bool
     }
 }
 
-// Whether two hosts of expressions are the same, in any case.
-fn same_any_case(a: &[u8], b: &[u8]) -> bool
-    ensures { λ r. ⌜ r ≡ sameLowered (now (a .entry)) (lowered (now (b .entry))) ⌝ }
+// Whether two hosts of one kind are the same.
+fn same_hosts(kind: HostKind, x: &[u8], y: &[u8]) -> bool
+    ensures { λ r. ⌜ r ≡ sameHost (hostIn kind (now (x .entry))) (hostIn kind (now (y .entry))) ⌝ }
 {
-    let mut i: usize = 0;
-    while i < a.len() {
-        if b.len() <= i {
-            return false;
-        }
-        let x = ascii::lower(a[i]);
-        let y = ascii::lower(b[i]);
-        if x != y {
-            return false;
-        }
-        i += 1;
+    match kind {
+        HostKind::None => true,
+        HostKind::Any => true,
+        HostKind::Exact => ascii::same(x, y),
+        HostKind::Subdomains => ascii::same(x, y),
     }
-    if i < b.len() { false } else { true }
 }
 
-// Whether two expressions, each of its own text, have the same normal form.
-pub fn same_normal(s: &[u8], e: ExpressionRange, t: &[u8], f: ExpressionRange) -> bool
-    ensures { λ r. ⌜ r ≡ sameExpression (normal (expressionIn (now (s .entry)) e)) (normal (expressionIn (now (t .entry)) f)) ⌝ }
+// Whether two expressions, by their parts and beside the texts of their hosts, have the same normal form.
+pub fn same_parts(e: ExpressionParts, x: &[u8], f: ExpressionParts, y: &[u8]) -> bool
+    ensures { λ r. ⌜ r ≡ sameExpression (normal (expressionBy e (now (x .entry)))) (normal (expressionBy f (now (y .entry)))) ⌝ }
 {
+    let kind = e.host;
+    let other = f.host;
+    if !same_kind(kind, other) {
+        return false;
+    }
+    if !same_hosts(kind, x, y) {
+        return false;
+    }
     let k = e.scheme;
     let j = f.scheme;
     if !same_scheme(k, j) {
@@ -699,20 +700,5 @@ pub fn same_normal(s: &[u8], e: ExpressionRange, t: &[u8], f: ExpressionRange) -
     }
     let p = e.port;
     let q = f.port;
-    if !same_port(normal_port(k, p), normal_port(j, q)) {
-        return false;
-    }
-    let kind = e.host;
-    let other = f.host;
-    if !same_kind(kind, other) {
-        return false;
-    }
-    let x = ascii::part(s, e.from, e.to);
-    let y = ascii::part(t, f.from, f.to);
-    match kind {
-        HostKind::None => true,
-        HostKind::Any => true,
-        HostKind::Exact => same_any_case(x, y),
-        HostKind::Subdomains => same_any_case(x, y),
-    }
+    same_port(normal_port(k, p), normal_port(j, q))
 }

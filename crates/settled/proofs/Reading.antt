@@ -48,6 +48,7 @@ use Rattle.settled.specs.declared.ExpressionFound.the-variants as found
 use Rattle.settled.specs.declared.ListRange.{ListRange}
 use Rattle.settled.specs.declared.ListFound.{ListFound}
 use Rattle.settled.specs.declared.ListFound.the-variants as list
+use Rattle.settled.proofs.Laws.{from-none}
 
 -- bits, test by test
 module _ (b : ℕ) where
@@ -103,11 +104,6 @@ byte-at s i = go (leb (length s) i) refl
 
 pub word-is : (s : List ℕ) (i x y r : ℕ) → x ≡ headOf (drop i s) → y ≡ headOf (drop (i + 1) s) → r ≡ x + 256 * y → r ≡ wordAt s i
 word-is s i x y r e f g = rw (← (byte-at s i), ← (byte-at s (i + 1)), ← e, ← f) g
-
--- none of no expressions
-none-left : (l : List ℕ) → expressionsFrom 0 l ≡ []
-unfolding expressionsFrom
-none-left l = refl
 
 -- too few bytes for an expression
 few : (i : ℕ) (l : List ℕ) → length l < 4 → expressionsFrom i l ≡ []
@@ -206,7 +202,7 @@ high-next r e k = rw k
 -- a walk that looks for an expression that admits a tuple origin
 module _ (d : List ℕ) (o : TupleParts) (h : List ℕ) (R : Bool) (p left : ℕ) (so-far : anyAdmits (expressionsFrom left (drop p d)) (tuple (tupleBy o h)) ≡ R) where
   pub walk-end : left ≤ 0 → false ≡ R
-  walk-end g = let z : left ≡ 0 = omega arith in sym (any-nil (tuple (tupleBy o h))) ∙ (rw (z, none-left (drop p d)) at so-far)
+  walk-end g = let z : left ≡ 0 = omega arith in sym (any-nil (tuple (tupleBy o h))) ∙ (rw (z, from-none (drop p d)) at so-far)
 
   module _ (f : ExpressionFound) (is : (i : ℕ) → expressionsFrom (suc i) (drop p d) ≡ restFrom i d f) (more : 0 < left) where
     here : anyAdmits (restFrom (left - 1) d f) (tuple (tupleBy o h)) ≡ R

@@ -151,10 +151,10 @@ module _ (x : Document) (n : ℕ) (v : Option Value) (h : n < featureCount) (s :
       record {
         long = entry-long (x .head) n (markOf (valueDeclares (m .value))) (length (x .body)) (length (valueSources (m .value))) h (s .long);
         says = λ y.
-          rw (later-same (nameOf n) v m hit, last-value (m .value), append-assoc (x .body) t y)
-          (ap (λ (z : Entry). entryDeclares z (x .body ++ (t ++ y))) (entry-here (x .head) n (markOf (valueDeclares (m .value))) (length (x .body)) (length (valueSources (m .value))) h (s .long))
-          ∙ (entry-marked (record { mark = markOf (valueDeclares (m .value)); start = length (x .body); count = length (valueSources (m .value)) }) (x .body ++ (t ++ y))
-          ∙ (rw (drop-at (x .body) (t ++ y) (length (x .body)) refl, list-back (valueSources (m .value)) y) (value-marked (m .value)))));
+            rw (later-same (nameOf n) v m hit, last-value (m .value), append-assoc (x .body) t y)
+            (ap (λ (z : Entry). entryDeclares z (x .body ++ (t ++ y))) (entry-here (x .head) n (markOf (valueDeclares (m .value))) (length (x .body)) (length (valueSources (m .value))) h (s .long))
+            ∙ (entry-marked (record { mark = markOf (valueDeclares (m .value)); start = length (x .body); count = length (valueSources (m .value)) }) (x .body ++ (t ++ y))
+            ∙ (rw (drop-at (x .body) (t ++ y) (length (x .body)) refl, list-back (valueSources (m .value)) y) (value-marked (m .value)))));
       }
 
   there : (k : ℕ) → featureOf (m .key) ≡ some k → (n ≡ k → ⊥) → Shows (withValue x (some k) (m .value)) n (later (nameOf n) v m)
@@ -167,8 +167,8 @@ module _ (x : Document) (n : ℕ) (v : Option Value) (h : n < featureCount) (s :
       record {
         long = entry-long (x .head) k (markOf (valueDeclares (m .value))) (length (x .body)) (length (valueSources (m .value))) b (s .long);
         says = λ y.
-          rw (later-other (nameOf n) v m miss, append-assoc (x .body) t y)
-          (ap (λ (z : Entry). entryDeclares z (x .body ++ (t ++ y))) (entry-other (x .head) k (markOf (valueDeclares (m .value))) (length (x .body)) (length (valueSources (m .value))) b (s .long) n d) ∙ s .says (t ++ y));
+            rw (later-other (nameOf n) v m miss, append-assoc (x .body) t y)
+            (ap (λ (z : Entry). entryDeclares z (x .body ++ (t ++ y))) (entry-other (x .head) k (markOf (valueDeclares (m .value))) (length (x .body)) (length (valueSources (m .value))) b (s .long) n d) ∙ s .says (t ++ y));
       }
 
   unnamed : featureOf (m .key) ≡ none → Shows (withValue x none (m .value)) n (later (nameOf n) v m)

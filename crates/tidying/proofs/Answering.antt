@@ -1,23 +1,32 @@
 -- The answer of tidying, test by test. Assumes nothing.
 use mathlib.Core.Path.{_≡_, refl, ap, _∙_, sym}
-use Prim.Native.Nat.{ℕ, _+_, _≤_, _<_}
+use Prim.Native.Nat.{ℕ, zero, suc, _+_, _≤_, _<_}
 use mathlib.Core.List.{List, [], _++_}
 use mathlib.Core.Bool.{Bool, true, false}
+use mathlib.Core.Option.{Option}
 use native.Mathlib.Omega.{arith}
 use native.Mathlib.Nat.{zero-add}
-use lib.ListN.{length, take, drop}
+use lib.ListN.{length, take, drop, take-append-drop}
 use lib.Dec.{ltb}
-use borrow.Author.Tests.{lt-ltb, le-ltb}
+use borrow.Author.Tests.{ltb-true, ltb-false, lt-ltb, le-ltb}
 use Rattle.limits.specs.Limits.{textBytes}
 use Rattle.limits.specs.declared.Refusal.the-variants.{TooLong, NotADictionary, Small}
 use Rattle.ascii.specs.Bytes.{pick}
-use Rattle.declarations.specs.Declarations.{isMalformed}
-use Rattle.declarations.specs.Settings.{IsSettled}
-use Rattle.declarations.specs.declared.Settings.{Settings}
-use Rattle.tidying.specs.Tidied.{tidied}
+use Rattle.ascii.proofs.Clash.{clash}
+use Rattle.features.specs.Features.{featureCount}
+use Rattle.dictionaries.specs.Written.{written}
+use Rattle.allowlists.specs.Allowlists.{Allowlist}
+use Rattle.declarations.specs.Declarations.{declares}
+use Rattle.settled.specs.Settled.{headBytes, declaredIn}
+use Rattle.settling.specs.Promises.{Answer, IsSettledIn, IsSettled}
+use Rattle.settling.specs.declared.SettledHeader.{SettledHeader}
+use Rattle.settling.specs.declared.Settled.{Settled}
+use Rattle.settling.specs.declared.Settled.the-variants as settled
+use Rattle.tidying.specs.Tidied.{tidyFrom, tidyMembers, withMember, tidied}
 use Rattle.tidying.specs.Writing.{Holds, Adding}
 use Rattle.tidying.specs.Answers.{tidyAnswer, runAfter, IsTidied}
-use Rattle.tidying.specs.Steps.{puts, IsPut}
+use Rattle.tidying.specs.Steps.{IsPut}
+use Rattle.tidying.specs.declared.TidyAnswer.{TidyAnswer}
 use Rattle.tidying.specs.declared.TidyAnswer.the-variants as answer
 use Rattle.tidying.proofs.Copies.{puts-front}
 
@@ -25,27 +34,73 @@ use Rattle.tidying.proofs.Copies.{puts-front}
 holds-none : (l : List ℕ) → Holds l 0 []
 holds-none l = record { fits = λ h. (refl, refl); over = λ h. absurd (omega arith) }
 
-module _ (s run : List ℕ) where
+-- what declares the same is written the same
+from-same : (c d : ℕ → Option Allowlist) → ((n : ℕ) → c n ≡ d n) → (n k : ℕ) → tidyFrom c n k ≡ tidyFrom d n k
+unfolding tidyFrom
+from-same c d h n zero = refl
+from-same c d h n (suc k) = rw (h n, from-same c d h (suc n) k)
+
+-- the answer of settling, by its two tests
+long-test : (b c : Bool) → Answer.tooLong ≡ pick b Answer.tooLong (pick c Answer.small Answer.header) → b ≡ true
+unfolding pick
+long-test true c e = refl
+long-test false true e = clash cc
+long-test false false e = clash cc
+
+small-tests : (b c : Bool) → Answer.small ≡ pick b Answer.tooLong (pick c Answer.small Answer.header) → (b ≡ false) × (c ≡ true)
+unfolding pick
+small-tests true c e = clash cc
+small-tests false true e = (refl, refl)
+small-tests false false e = clash cc
+
+header-test : (b c : Bool) → Answer.header ≡ pick b Answer.tooLong (pick c Answer.small Answer.header) → b ≡ false
+unfolding pick
+header-test true c e = clash cc
+header-test false c e = refl
+
+module _ (s run before after : List ℕ) (r : Settled) (g : IsSettled s before after r) where
   -- 4 for the input
-  pub input-long : textBytes < length s → IsTidied s run run (answer.Refused TooLong)
+  pub input-long : r ≡ settled.TooLong → IsTidied s run run (answer.Refused TooLong)
   unfolding tidyAnswer runAfter pick
-  input-long h = record { answer = rw (lt-ltb textBytes (length s) h); bytes = refl }
+  input-long k =
+      let t : ltb textBytes (length s) ≡ true = long-test (ltb textBytes (length s)) (ltb (length before) (headBytes + length s)) (rw k at (g .which)) in
+      record { answer = rw t; bytes = refl }
 
-  module _ (h : length s ≤ textBytes) (kept : Settings) (g : IsSettled s kept) where
+  -- there is room for every header
+  pub never-small : length before ≡ headBytes + textBytes → (z : List ℕ) (x : TidyAnswer) → r ≡ settled.Small → IsTidied s run z x
+  never-small h z x k =
+      let t = small-tests (ltb textBytes (length s)) (ltb (length before) (headBytes + length s)) (rw k at (g .which)) in
+      absurd (omega (arith, ltb-false textBytes (length s) (t .0), ltb-true (length before) (headBytes + length s) (t .1)))
+
+  module _ (f : SettledHeader) (k : r ≡ settled.Header f) where
+    short : ltb textBytes (length s) ≡ false
+    short = header-test (ltb textBytes (length s)) (ltb (length before) (headBytes + length s)) (rw k at (g .which))
+
+    i : IsSettledIn s before after f
+    i = g .header f k
+
     -- 8
-    pub malformed : kept .malformed ≡ true → IsTidied s run run (answer.Refused NotADictionary)
+    pub malformed : f .malformed ≡ true → IsTidied s run run (answer.Refused NotADictionary)
     unfolding tidyAnswer runAfter pick
-    malformed k = record { answer = rw (le-ltb textBytes (length s) h, ← (g .malformed), k); bytes = refl }
+    malformed m = record { answer = rw (short, ← (i .malformed), m); bytes = refl }
 
-    module _ (k : kept .malformed ≡ false) (l m : List ℕ) (n : ℕ) (a : Adding l 0 (tidied s) m n) where
-      held : Holds m n (tidied s)
-      held = a .holds [] (holds-none l)
+    -- the bytes say what the header declares
+    says : (n : ℕ) → declaredIn after n ≡ declares s n
+    says n = ap (λ (d : List ℕ). declaredIn d n) (sym (take-append-drop (f .to) after)) ∙ i .says (drop (f .to) after) n
+
+    written-same : written (tidyMembers (declaredIn after)) ≡ tidied s
+    unfolding tidied
+    written-same = ap written (from-same (declaredIn after) (declares s) says 0 featureCount)
+
+    module _ (m : f .malformed ≡ false) (l z : List ℕ) (n : ℕ) (a : Adding l 0 (written (tidyMembers (declaredIn after))) z n) where
+      held : Holds z n (tidied s)
+      held = rw written-same at (a .holds [] (holds-none l))
 
       -- 4 for the output
       pub output-long : textBytes < n → IsTidied s run run (answer.Refused TooLong)
       unfolding tidyAnswer runAfter pick
       output-long u =
-          record { answer = rw (le-ltb textBytes (length s) h, ← (g .malformed), k, lt-ltb textBytes (length (tidied s)) (held .over u)); bytes = refl }
+          record { answer = rw (short, ← (i .malformed), m, lt-ltb textBytes (length (tidied s)) (held .over u)); bytes = refl }
 
       module _ (u : n ≤ textBytes) where
         room-is : length (tidied s) ≡ n
@@ -56,16 +111,16 @@ module _ (s run : List ℕ) where
         unfolding tidyAnswer runAfter pick
         run-short v =
             let e : length (tidied s) ≡ n = room-is in
-            record { answer = rw (le-ltb textBytes (length s) h, ← (g .malformed), k, e, le-ltb textBytes n u, lt-ltb (length run) n v); bytes = refl }
+            record { answer = rw (short, ← (i .malformed), m, e, le-ltb textBytes n u, lt-ltb (length run) n v); bytes = refl }
 
         -- the text, copied
-        pub written-out : (z : List ℕ) (r : ℕ) → n ≤ length run → IsPut run 0 (take n m) z r → IsTidied s run z (answer.Length r)
+        pub written-out : (o : List ℕ) (q : ℕ) → n ≤ length run → IsPut run 0 (take n z) o q → IsTidied s run o (answer.Length q)
         unfolding tidyAnswer runAfter pick
-        written-out z r v p =
+        written-out o q v p =
             let e : length (tidied s) ≡ n = room-is in
-            let t : take n m ≡ tidied s = held .fits u .1 in
-            let q : r ≡ n = p .to ∙ (ap (λ (w : List ℕ). 0 + length w) t ∙ (zero-add (length (tidied s)) ∙ e)) in
+            let t : take n z ≡ tidied s = held .fits u .1 in
+            let j : q ≡ n = p .to ∙ (ap (λ (w : List ℕ). 0 + length w) t ∙ (zero-add (length (tidied s)) ∙ e)) in
             record {
-              answer = rw (le-ltb textBytes (length s) h, ← (g .malformed), k, e, le-ltb textBytes n u, le-ltb (length run) n v, q);
-              bytes = p .is ∙ (rw (t, q, ← e) (puts-front run (tidied s)));
+              answer = rw (short, ← (i .malformed), m, e, le-ltb textBytes n u, le-ltb (length run) n v, j);
+              bytes = p .is ∙ (rw (t, j, ← e) (puts-front run (tidied s)));
             }

@@ -6,9 +6,8 @@ use native.Mathlib.Omega.{arith}
 use lib.ListN.{length, take, drop, length-append, length-replicate}
 use lib.Seq.{take-all}
 use Rattle.limits.specs.Limits.{portDigits}
-use Rattle.ascii.specs.Texts.{lowered, partOf}
 use Rattle.origins.specs.Origins.{schemeText, schemeSlashes}
-use Rattle.origins.specs.Answers.{expressionIn, IsPortText}
+use Rattle.origins.specs.Answers.{expressionBy, IsPortText}
 use Rattle.origins.specs.NormalForms.{portText, portPartText, normalPort, normalForm}
 use Rattle.origins.specs.declared.Scheme.{Scheme}
 use Rattle.origins.specs.declared.Scheme.the-variants.{Http, Https}
@@ -16,7 +15,7 @@ use Rattle.origins.specs.declared.PortPart.{PortPart}
 use Rattle.origins.specs.declared.PortPart.the-variants as part
 use Rattle.origins.specs.declared.PortText.{PortText}
 use Rattle.origins.specs.declared.HostKind.the-variants as kind
-use Rattle.origins.specs.declared.ExpressionRange.{ExpressionRange}
+use Rattle.origins.specs.declared.ExpressionParts.{ExpressionParts}
 use Rattle.origins.proofs.Laws.{text-no-host, text-any-host, text-exact, text-below, text-default, text-any-port, text-number, form-parts}
 use Rattle.tidying.specs.Writing.{Adding}
 use Rattle.tidying.proofs.Growing.{adding-on, adding-none}
@@ -56,25 +55,24 @@ module _ (l m : List ℕ) (at r : ℕ) (p : PortPart) where
       rw (e, text-number n) (adding-on l z m at o r (58 ∷ []) (portText n) a (rw (port-digits n t i) at b))
 
 -- an expression, by its host's kind
-module _ (x : List ℕ) (e : ExpressionRange) (l z : List ℕ) (at r : ℕ) where
-  pub form-none : e .host ≡ kind.None → Adding l at (schemeText (e .scheme)) z r → Adding l at (normalForm (expressionIn x e)) z r
-  form-none k h = rw (form-parts (expressionIn x e), k, text-no-host) h
+module _ (h : List ℕ) (e : ExpressionParts) (l z : List ℕ) (at r : ℕ) where
+  pub form-none : e .host ≡ kind.None → Adding l at (schemeText (e .scheme)) z r → Adding l at (normalForm (expressionBy e h)) z r
+  form-none k a = rw (form-parts (expressionBy e h), k, text-no-host) a
 
   module _ (p : PortPart) (q : p ≡ normalPort (e .scheme) (e .port)) (m n : List ℕ) (a b : ℕ) (s : Adding l at (schemeSlashes (e .scheme)) m a) where
-    pub form-any : e .host ≡ kind.Any → Adding m a (42 ∷ []) n b → Adding n b (portPartText p) z r → Adding l at (normalForm (expressionIn x e)) z r
+    pub form-any : e .host ≡ kind.Any → Adding m a (42 ∷ []) n b → Adding n b (portPartText p) z r → Adding l at (normalForm (expressionBy e h)) z r
     form-any k u v =
-        rw (form-parts (expressionIn x e), k, ← q, text-any-host)
+        rw (form-parts (expressionBy e h), k, ← q, text-any-host)
         (adding-on l m z at a r (schemeSlashes (e .scheme)) (42 ∷ portPartText p) s (adding-on m n z a b r (42 ∷ []) (portPartText p) u v))
 
-    module _ (h : List ℕ) (i : h ≡ partOf x (e .from) (e .to)) where
-      pub form-exact : e .host ≡ kind.Exact → Adding m a (lowered h) n b → Adding n b (portPartText p) z r → Adding l at (normalForm (expressionIn x e)) z r
-      form-exact k u v =
-          rw (form-parts (expressionIn x e), k, ← q, ← i, text-exact)
-          (adding-on l m z at a r (schemeSlashes (e .scheme)) (lowered h ++ portPartText p) s (adding-on m n z a b r (lowered h) (portPartText p) u v))
+    pub form-exact : e .host ≡ kind.Exact → Adding m a h n b → Adding n b (portPartText p) z r → Adding l at (normalForm (expressionBy e h)) z r
+    form-exact k u v =
+        rw (form-parts (expressionBy e h), k, ← q, text-exact)
+        (adding-on l m z at a r (schemeSlashes (e .scheme)) (h ++ portPartText p) s (adding-on m n z a b r h (portPartText p) u v))
 
-      pub form-subdomains : e .host ≡ kind.Subdomains → (o : List ℕ) (d : ℕ) → Adding m a (42 ∷ 46 ∷ []) n b → Adding n b (lowered h) o d → Adding o d (portPartText p) z r → Adding l at (normalForm (expressionIn x e)) z r
-      form-subdomains k o d u v w =
-          rw (form-parts (expressionIn x e), k, ← q, ← i, text-below)
-          (adding-on l m z at a r (schemeSlashes (e .scheme)) (42 ∷ 46 ∷ (lowered h ++ portPartText p)) s
-          (adding-on m n z a b r (42 ∷ 46 ∷ []) (lowered h ++ portPartText p) u
-          (adding-on n o z b d r (lowered h) (portPartText p) v w)))
+    pub form-subdomains : e .host ≡ kind.Subdomains → (o : List ℕ) (d : ℕ) → Adding m a (42 ∷ 46 ∷ []) n b → Adding n b h o d → Adding o d (portPartText p) z r → Adding l at (normalForm (expressionBy e h)) z r
+    form-subdomains k o d u v w =
+        rw (form-parts (expressionBy e h), k, ← q, text-below)
+        (adding-on l m z at a r (schemeSlashes (e .scheme)) (42 ∷ 46 ∷ (h ++ portPartText p)) s
+        (adding-on m n z a b r (42 ∷ 46 ∷ []) (h ++ portPartText p) u
+        (adding-on n o z b d r h (portPartText p) v w)))

@@ -7,11 +7,10 @@ use native.Mathlib.Omega.{arith}
 use borrow.Author.Needs.{needs}
 use lib.ListN.{length, length-append}
 use Rattle.limits.specs.Limits.{textBytes}
-use Rattle.ascii.specs.Bytes.{pick, lower}
-use Rattle.ascii.specs.Texts.{lowered}
+use Rattle.ascii.specs.Bytes.{pick}
 use Rattle.tidying.specs.Writing.{Holds, Adding}
 use Rattle.tidying.specs.Steps.{puts, IsPut}
-use Rattle.tidying.proofs.Copies.{puts-take, each-long}
+use Rattle.tidying.proofs.Copies.{puts-take}
 
 -- a text that is too long stays so
 pub add-over : (l : List ℕ) (at : ℕ) (t : List ℕ) → textBytes < at → Adding l at t l (textBytes + 1)
@@ -26,19 +25,6 @@ add-put l at t m r h k n p =
     record { long = p .long; holds = λ d g. record { fits = λ w. (omega (arith, length-append d t, g .fits h .0), rw (p .is, p .to) (puts-take l at t (omega arith) ∙ ap (λ (z : List ℕ). z ++ t) (g .fits h .1))); over = λ o. absurd (omega (arith, p .to)) } }
 
 pub ruleset growing = (add-over, add-long, add-put, needs)
-
--- the same in lower case
-module _ (l : List ℕ) (at : ℕ) (t : List ℕ) where
-  pub low-over : textBytes < at → Adding l at (lowered t) l (textBytes + 1)
-  low-over h = add-over l at (lowered t) h
-
-  pub low-long : at ≤ textBytes → textBytes - at < length t → Adding l at (lowered t) l (textBytes + 1)
-  low-long h k = let n : length (lowered t) ≡ length t = each-long lower t in add-long l at (lowered t) h (omega arith)
-
-  pub low-put : (m : List ℕ) (r : ℕ) → at ≤ textBytes → length t ≤ textBytes - at → length l ≡ textBytes → IsPut l at (lowered t) m r → Adding l at (lowered t) m r
-  low-put m r h k e p = let n : length (lowered t) ≡ length t = each-long lower t in add-put l at (lowered t) m r h (omega arith) e p
-
-pub ruleset lower-growing = (low-over, low-long, low-put, needs)
 
 -- one after the other
 pub adding-on : (l m n : List ℕ) (at o r : ℕ) (a b : List ℕ) → Adding l at a m o → Adding m o b n r → Adding l at (a ++ b) n r

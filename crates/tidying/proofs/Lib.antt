@@ -2,8 +2,7 @@ pub mod Copies
 pub mod Growing
 pub mod Forms
 pub mod Spellings
-pub mod Passing
 pub mod Listing
 pub mod Members
-pub mod Answering
 pub mod RoundTrip
+pub mod Answering

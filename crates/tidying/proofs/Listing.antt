@@ -1,139 +1,151 @@
--- The expressions of an allowlist as they are written, each once. Assumes nothing.
+-- The expressions of a settled list as they are written, each once. Assumes nothing.
 use mathlib.Core.Path.{_≡_, refl, ap, _∙_, sym}
-use Prim.Native.Nat.{ℕ}
-use mathlib.Core.List.{List, [], _∷_, _++_, map, append-assoc, append-nil}
+use Prim.Native.Nat.{ℕ, suc, _+_, _-_, _≤_, _<_}
+use mathlib.Core.List.{List, [], _∷_, _++_, map, map-append, append-assoc, append-nil}
 use mathlib.Core.Bool.{Bool, true, false, _||_}
+use native.Mathlib.Omega.{arith}
+use native.Mathlib.Nat.{zero-add}
+use lib.ListN.{drop}
 use Rattle.ascii.specs.Bytes.{pick}
 use Rattle.ascii.specs.Literals.{text}
 use Rattle.ascii.specs.Texts.{partOf}
+use Rattle.ascii.proofs.Bytes.{or-false}
 use Rattle.origins.specs.Expressions.{SourceExpression}
-use Rattle.origins.specs.Answers.{expressionIn}
-use Rattle.origins.specs.NormalForms.{normal, normalForm}
-use Rattle.origins.specs.declared.ExpressionRange.{ExpressionRange}
-use Rattle.items.specs.Found.{itemIn}
-use Rattle.items.specs.declared.ItemFound.{ItemFound}
-use Rattle.items.specs.declared.ItemRange.{ItemRange}
-use Rattle.dictionaries.specs.Lookup.{itemsFrom, IsPointed}
+use Rattle.origins.specs.Answers.{expressionBy}
+use Rattle.origins.specs.NormalForms.{normal, normalForm, sameExpression}
+use Rattle.origins.specs.declared.ExpressionParts.{ExpressionParts}
 use Rattle.dictionaries.specs.Written.{itemText}
 use Rattle.dictionaries.proofs.Written.{string-text}
-use Rattle.dictionaries.specs.declared.ListItem.{ListItem}
-use Rattle.dictionaries.specs.declared.ListItem.the-variants as list
-use Rattle.dictionaries.proofs.Laws.{items-item, items-end}
-use Rattle.declarations.specs.Allowlists.{Meaning, meaningOf, withSource, sourcesOf}
-use Rattle.declarations.specs.Allowlists.Meaning.{star, self, source, nothing}
-use Rattle.declarations.specs.Settings.{meaningAs, itemsAt}
-use Rattle.declarations.specs.declared.Cursor.{Cursor}
-use Rattle.declarations.specs.declared.Cursor.the-variants as cursor
-use Rattle.declarations.specs.declared.ItemMeaning.{ItemMeaning}
-use Rattle.declarations.specs.declared.ItemMeaning.the-variants as meaning
-use Rattle.declarations.proofs.Meanings.{adds-all, adds-own, adds-nothing, adds-source}
+use Rattle.settled.specs.Settled.{expressionsFrom}
+use Rattle.settled.specs.Answers.{settledIn, restFrom, IsExpressionAt}
+use Rattle.settled.specs.declared.SettledExpression.{SettledExpression}
+use Rattle.settled.specs.declared.ExpressionFound.{ExpressionFound}
+use Rattle.settled.specs.declared.ExpressionFound.the-variants as found
+use Rattle.settled.proofs.Laws.{from-none}
 use Rattle.tidying.specs.Tidied.{among, unless, onceAfter, sourceItem}
 use Rattle.tidying.specs.Writing.{Adding}
-use Rattle.tidying.specs.Steps.{Spelling, Before, IsSeen, ItemAdded, sourceText, sourceTexts}
+use Rattle.tidying.specs.Steps.{Spelling, sourceText, sourceTexts, newText}
 use Rattle.tidying.specs.declared.Added.{Added}
 use Rattle.tidying.proofs.Growing.{adding-on}
 use Rattle.tidying.proofs.Spellings.{spelling-none, spelling-one, spelling-on}
-use Rattle.tidying.proofs.Passing.{before-none, before-on}
 
--- no expressions
-texts-none : (before : List SourceExpression) → sourceTexts before [] ≡ []
-unfolding sourceTexts onceAfter
-texts-none before = refl
+-- a walk that looks for an expression of the same normal form
+module _ (d : List ℕ) (e : ExpressionParts) (h : List ℕ) (R : Bool) (p left : ℕ) (so-far : among (normal (expressionBy e h)) (map normal (expressionsFrom left (drop p d))) ≡ R) where
+  pub seen-end : left ≤ 0 → false ≡ R
+  unfolding among
+  seen-end g = let z : left ≡ 0 = omega arith in rw (z, from-none (drop p d)) at so-far
 
--- one expression: it is written unless it stands before
-texts-old : (before : List SourceExpression) (e : SourceExpression) → among (normal e) before ≡ true → sourceTexts before (e ∷ []) ≡ []
-unfolding sourceTexts onceAfter unless
-texts-old before e h = rw h
+  module _ (r : ExpressionFound) (is : IsExpressionAt d p r) (more : 0 < left) where
+    here : among (normal (expressionBy e h)) (map normal (restFrom (left - 1) d r)) ≡ R
+    here =
+        let z : suc (left - 1) ≡ left = omega arith in
+        ap (λ (es : List SourceExpression). among (normal (expressionBy e h)) (map normal es)) (sym (is .says (left - 1)) ∙ ap (λ (i : ℕ). expressionsFrom i (drop p d)) z) ∙ so-far
 
-texts-new : (before : List SourceExpression) (e : SourceExpression) → among (normal e) before ≡ false → sourceTexts before (e ∷ []) ≡ sourceText e ∷ []
-unfolding sourceTexts onceAfter unless
-texts-new before e h = rw h
+    pub seen-none : r ≡ found.None → false ≡ R
+    unfolding among
+    seen-none k = rw k at here
+
+    module _ (f : SettledExpression) (k : r ≡ found.Expression f) (y : List ℕ) (part : y ≡ partOf d (f .from) (f .to)) (b : Bool) (v : b ≡ sameExpression (normal (expressionBy e h)) (normal (expressionBy (f .parts) y))) where
+      turn : b || among (normal (expressionBy e h)) (map normal (expressionsFrom (left - 1) (drop (f .to) d))) ≡ R
+      unfolding among
+      turn = rw (v, part) (rw k at here)
+
+      pub seen-hit : b ≡ true → true ≡ R
+      seen-hit t = rw t at turn
+
+      pub seen-on : b ≡ false → among (normal (expressionBy e h)) (map normal (expressionsFrom (left - 1) (drop (f .to) d))) ≡ R
+      seen-on t = rw t at turn
 
 -- the parts of a string, one after the other
 pub string-parts : (l : List ℕ) (at : ℕ) (any : Bool) (e : SourceExpression) (m n o z : List ℕ) (a c d q : ℕ) → Adding l at (pick any (text " ") []) m a → Adding m a (text "\"") n c → Adding n c (normalForm e) o d → Adding o d (text "\"") z q → Spelling (text " ") l at any (sourceText e ∷ []) z (record { to = q; any = true })
 string-parts l at any e m n o z a c d q u v w y =
-    rw (string-text (normalForm e)) (spelling-one (text " ") l at any m z (text "\"" ++ (normalForm e ++ text "\"")) a q u
+    rw (string-text (normalForm e))
+    (spelling-one (text " ") l at any m z (text "\"" ++ (normalForm e ++ text "\"")) a q u
     (adding-on m n z a c q (text "\"") (normalForm e ++ text "\"") v (adding-on n o z c d q (normalForm e) (text "\"") w y)))
 
--- an item's expressions, and then those of the others
-texts-more : (before : List SourceExpression) (m : Meaning) (es : List SourceExpression) → sourceTexts before (withSource m es) ≡ sourceTexts before (withSource m []) ++ sourceTexts (map normal (withSource m []) ++ before) es
-unfolding withSource sourceTexts onceAfter
-texts-more before star es = refl
-texts-more before self es = refl
-texts-more before nothing es = refl
-texts-more before (source e) es = go (among (normal e) before)
+-- an expression after others, by whether one of them has its normal form
+module _ (es : List SourceExpression) (e : SourceExpression) (l : List ℕ) (at : ℕ) (any b : Bool) (g : b ≡ among (normal e) (map normal es)) where
+  pub source-old : b ≡ true → Spelling (text " ") l at any (newText es e) l (record { to = at; any = any })
+  unfolding newText unless
+  source-old t = rw (← g, t) (spelling-none (text " ") l at any)
+
+  pub source-new : b ≡ false → (m : List ℕ) (x : Added) → Spelling (text " ") l at any (sourceText e ∷ []) m x → Spelling (text " ") l at any (newText es e) m x
+  unfolding newText unless
+  source-new t m x u = rw (← g, t) u
+
+-- each once: one expression more
+unless-on : (b : Bool) (e : SourceExpression) (xs ys : List SourceExpression) → unless b e (xs ++ ys) ≡ unless b e xs ++ ys
+unfolding unless
+unless-on true e xs ys = refl
+unless-on false e xs ys = refl
+
+or-moved : (a b c : Bool) → a || (b || c) ≡ (b || a) || c
+or-moved true true c = refl
+or-moved true false c = refl
+or-moved false true c = refl
+or-moved false false c = refl
+
+once-more : (before es : List SourceExpression) (e : SourceExpression) → onceAfter before (es ++ (e ∷ [])) ≡ onceAfter before es ++ unless (among e es || among e before) e []
+unfolding onceAfter among
+once-more before [] e = refl
+once-more before (x ∷ es) e =
+    rw (once-more (x ∷ before) es e, or-moved (among e es) (sameExpression e x) (among e before))
+    (unless-on (among x before) x (onceAfter (x ∷ before) es) (unless ((sameExpression e x || among e es) || among e before) e []))
+
+texts-none : sourceTexts [] ≡ []
+unfolding sourceTexts onceAfter
+texts-none = refl
+
+texts-more : (es : List SourceExpression) (e : SourceExpression) → sourceTexts (es ++ (e ∷ [])) ≡ sourceTexts es ++ newText es e
+unfolding sourceTexts newText
+texts-more es e =
+    rw (map-append normal es (e ∷ []), once-more [] (map normal es) (normal e), none-before)
+    (ap (map itemText) (map-append (λ x. sourceItem x) (onceAfter [] (map normal es)) new) ∙ map-append itemText (map (λ x. sourceItem x) (onceAfter [] (map normal es))) (map (λ x. sourceItem x) new))
   where
-    go : (b : Bool) → map itemText (map (λ x. sourceItem x) (unless b (normal e) (onceAfter (normal e ∷ before) (map normal es)))) ≡ map itemText (map (λ x. sourceItem x) (unless b (normal e) [])) ++ map itemText (map (λ x. sourceItem x) (onceAfter (normal e ∷ before) (map normal es)))
-    go true = unfold unless in refl
-    go false = unfold unless in refl
+    new : List SourceExpression
+    new = unless (among (normal e) (map normal es)) (normal e) []
 
--- an item, by its meaning
-module _ (s : List ℕ) (p : ItemRange) (first upto : ℕ) (l : List ℕ) (at : ℕ) (any : Bool) (r : ItemMeaning) (h : r ≡ meaningAs (meaningOf (itemIn s p))) where
-  nothing-added : (es : List SourceExpression) → es ≡ [] → ItemAdded s first upto es l at any l (record { to = at; any = any })
-  nothing-added es e = record { adds = λ b g. rw (e, texts-none b) (spelling-none (text " ") l at any) }
+    none-before : among (normal e) (map normal es) || among (normal e) [] ≡ among (normal e) (map normal es)
+    none-before = unfold among in or-false (among (normal e) (map normal es))
 
-  pub item-all : r ≡ meaning.All → ItemAdded s first upto (withSource (meaningOf (itemIn s p)) []) l at any l (record { to = at; any = any })
-  item-all k = nothing-added _ (adds-all s p [] r h k)
+-- so many expressions from a place on, and where the next one stands
+pub record Passed (d : List ℕ) (first i p : ℕ) : Type 0 where
+  pub is : (k : ℕ) → expressionsFrom (i + k) (drop first d) ≡ expressionsFrom i (drop first d) ++ expressionsFrom k (drop p d)
 
-  pub item-own : r ≡ meaning.Own → ItemAdded s first upto (withSource (meaningOf (itemIn s p)) []) l at any l (record { to = at; any = any })
-  item-own k = nothing-added _ (adds-own s p [] r h k)
+pub passed-start : (d : List ℕ) (first : ℕ) → Passed d first 0 first
+passed-start d first = record { is = λ k. rw (zero-add k, from-none (drop first d)) }
 
-  pub item-nothing : r ≡ meaning.Nothing → ItemAdded s first upto (withSource (meaningOf (itemIn s p)) []) l at any l (record { to = at; any = any })
-  item-nothing k = nothing-added _ (adds-nothing s p [] r h k)
+module _ (d : List ℕ) (first i p : ℕ) (g : Passed d first i p) (r : ExpressionFound) (a : IsExpressionAt d p r) where
+  module _ (e : SettledExpression) (k : r ≡ found.Expression e) where
+    said : (j : ℕ) → expressionsFrom (i + 1 + j) (drop first d) ≡ expressionsFrom i (drop first d) ++ (settledIn d e ∷ expressionsFrom j (drop (e .to) d))
+    said j =
+        let z : i + 1 + j ≡ i + suc j = omega arith in
+        let f : expressionsFrom (suc j) (drop p d) ≡ settledIn d e ∷ expressionsFrom j (drop (e .to) d) = rw k at (a .says j) in
+        rw z (g .is (suc j) ∙ ap (λ (es : List SourceExpression). expressionsFrom i (drop first d) ++ es) f)
 
-  module _ (e : ExpressionRange) (x : List ℕ) (i : x ≡ partOf s (p .from) (p .to)) (k : r ≡ meaning.Source e) (b : Bool) (g : IsSeen s first upto (expressionIn x e) b) where
-    pub item-old : b ≡ true → ItemAdded s first upto (withSource (meaningOf (itemIn s p)) []) l at any l (record { to = at; any = any })
-    item-old t =
-        record { adds = λ before u. rw (adds-source s p [] r h e x i k, texts-old before (expressionIn x e) (sym (g .is before u) ∙ t)) (spelling-none (text " ") l at any) }
+    one-more : expressionsFrom (i + 1) (drop first d) ≡ expressionsFrom i (drop first d) ++ (settledIn d e ∷ [])
+    one-more = let z : i + 1 + 0 ≡ i + 1 = omega arith in rw (z, from-none (drop (e .to) d)) at (said 0)
 
-    pub item-new : (z : List ℕ) (y : Added) → b ≡ false → Spelling (text " ") l at any (sourceText (expressionIn x e) ∷ []) z y → ItemAdded s first upto (withSource (meaningOf (itemIn s p)) []) l at any z y
-    item-new z y t u =
-        record { adds = λ before j. rw (adds-source s p [] r h e x i k, texts-new before (expressionIn x e) (sym (g .is before j) ∙ t)) u }
+    pub passed-on : Passed d first (i + 1) (e .to)
+    passed-on = record { is = λ j. said j ∙ (rw one-more (sym (append-assoc (expressionsFrom i (drop first d)) (settledIn d e ∷ []) (expressionsFrom j (drop (e .to) d))))) }
 
--- a list, cursor by cursor: what was written, and what is left
-pub record Listing (s : List ℕ) (first c : ℕ) (l : List ℕ) (at : ℕ) (any : Bool) (m : List ℕ) (x : Added) : Type 0 where
-  pub texts : List (List ℕ)
-  pub before : List SourceExpression
-  pub passed : Before s first c before
-  pub spelt : Spelling (text " ") l at any texts m x
-  pub rest : texts ++ sourceTexts before (sourcesOf (itemsFrom s c)) ≡ sourceTexts [] (sourcesOf (itemsFrom s first))
+    -- one expression was added after those before it
+    pub listing-on : (l : List ℕ) (at : ℕ) (any : Bool) (m n h : List ℕ) (x y : Added) → h ≡ partOf d (e .from) (e .to) → Spelling (text " ") l at any (sourceTexts (expressionsFrom i (drop first d))) m x → Spelling (text " ") m (x .to) (x .any) (newText (expressionsFrom i (drop first d)) (expressionBy (e .parts) h)) n y → Spelling (text " ") l at any (sourceTexts (expressionsFrom (i + 1) (drop first d))) n y
+    listing-on l at any m n h x y u v w =
+        let es = expressionsFrom i (drop first d) in
+        rw (one-more, texts-more es (settledIn d e)) (spelling-on (text " ") l at any m n x y (sourceTexts es) (newText es (settledIn d e)) v (rw u at w))
 
-pub listing-start : (s : List ℕ) (first : ℕ) (l : List ℕ) (at : ℕ) (any : Bool) → Listing s first first l at any l (record { to = at; any = any })
-listing-start s first l at any = record { texts = []; before = []; passed = before-none s first; spelt = spelling-none (text " ") l at any; rest = refl }
+  -- fewer than were asked for
+  pub listing-short : (count : ℕ) (l : List ℕ) (at : ℕ) (any : Bool) (m : List ℕ) (x : Added) → i < count → r ≡ found.None → Spelling (text " ") l at any (sourceTexts (expressionsFrom i (drop first d))) m x → Spelling (text " ") l at any (sourceTexts (expressionsFrom count (drop first d))) m x
+  listing-short count l at any m x h k v =
+      let z : i + suc (count - i - 1) ≡ count = omega arith in
+      let f : expressionsFrom (suc (count - i - 1)) (drop p d) ≡ [] = rw k at (a .says (count - i - 1)) in
+      let q : expressionsFrom count (drop first d) ≡ expressionsFrom i (drop first d) = ap (λ (j : ℕ). expressionsFrom j (drop first d)) (sym z) ∙ (g .is (suc (count - i - 1)) ∙ (rw f (append-nil (expressionsFrom i (drop first d))))) in
+      rw q v
 
-module _ (s : List ℕ) (first c : ℕ) (l : List ℕ) (at : ℕ) (any : Bool) (m : List ℕ) (x : Added) (g : Listing s first c l at any m x) (r : ListItem) (p : IsPointed s c r) where
-  pub listing-on : (f : ItemFound) (n : List ℕ) (y : Added) → r ≡ list.Item f → ItemAdded s first c (withSource (meaningOf (itemIn s (f .range))) []) m (x .to) (x .any) n y → Listing s first (f .next) l at any n y
-  unfolding sourcesOf
-  listing-on f n y k a =
-      let w = meaningOf (itemIn s (f .range)) in
-      let es = sourcesOf (itemsFrom s (f .next)) in
-      let ts = sourceTexts (g .before) (withSource w []) in
-      record {
-        texts = g .texts ++ ts;
-        before = map normal (withSource w []) ++ g .before;
-        passed = before-on s first c (g .before) r f (g .passed) p k;
-        spelt = spelling-on (text " ") l at any m n x y (g .texts) ts (g .spelt) (a .adds (g .before) (g .passed));
-        rest = append-assoc (g .texts) ts (sourceTexts (map normal (withSource w []) ++ g .before) es)
-            ∙ (ap (λ (z : List (List ℕ)). g .texts ++ z) (sym (texts-more (g .before) w es)) ∙ (rw (items-item s c r (p .is) f k) at (g .rest)));
-      }
+-- none yet, and all
+pub listing-start : (d : List ℕ) (first : ℕ) (l : List ℕ) (at : ℕ) (any : Bool) → Spelling (text " ") l at any (sourceTexts (expressionsFrom 0 (drop first d))) l (record { to = at; any = any })
+listing-start d first l at any = rw (from-none (drop first d), texts-none) (spelling-none (text " ") l at any)
 
-  pub listing-end : r ≡ list.End → Spelling (text " ") l at any (sourceTexts [] (sourcesOf (itemsFrom s first))) m x
-  unfolding sourcesOf
-  listing-end k =
-      let e : g .texts ++ sourceTexts (g .before) [] ≡ sourceTexts [] (sourcesOf (itemsFrom s first)) = rw (items-end s c r (p .is) k) at (g .rest) in
-      let q : g .texts ≡ sourceTexts [] (sourcesOf (itemsFrom s first)) = sym (append-nil (g .texts)) ∙ (ap (λ (z : List (List ℕ)). g .texts ++ z) (sym (texts-none (g .before))) ∙ e) in
-      rw q at (g .spelt)
-
--- the items of a cursor, by its cases
-module _ (s : List ℕ) (c : Cursor) (l : List ℕ) (at : ℕ) (any : Bool) where
-  pub no-sources : c ≡ cursor.End → Spelling (text " ") l at any (sourceTexts [] (sourcesOf (itemsAt s c))) l (record { to = at; any = any })
-  unfolding itemsAt sourcesOf
-  no-sources k = rw (k, texts-none []) (spelling-none (text " ") l at any)
-
-  pub lone-source : (p : ItemRange) (m : List ℕ) (x : Added) → c ≡ cursor.Item p → ItemAdded s 0 0 (withSource (meaningOf (itemIn s p)) []) l at any m x → Spelling (text " ") l at any (sourceTexts [] (sourcesOf (itemsAt s c))) m x
-  unfolding itemsAt sourcesOf
-  lone-source p m x k a = rw k (a .adds [] (before-none s 0))
-
-  pub list-sources : (n : ℕ) (m : List ℕ) (x : Added) → c ≡ cursor.List n → Spelling (text " ") l at any (sourceTexts [] (sourcesOf (itemsFrom s n))) m x → Spelling (text " ") l at any (sourceTexts [] (sourcesOf (itemsAt s c))) m x
-  unfolding itemsAt
-  list-sources n m x k a = rw k a
+pub listing-end : (d : List ℕ) (first i count : ℕ) (l : List ℕ) (at : ℕ) (any : Bool) (m : List ℕ) (x : Added) → i ≤ count → count ≤ i → Spelling (text " ") l at any (sourceTexts (expressionsFrom i (drop first d))) m x → Spelling (text " ") l at any (sourceTexts (expressionsFrom count (drop first d))) m x
+listing-end d first i count l at any m x h k v = let z : count ≡ i = omega arith in rw z v

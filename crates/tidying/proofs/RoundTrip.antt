@@ -32,13 +32,13 @@ use Rattle.dictionaries.specs.Written.{All, GoodKey, GoodToken, GoodItem, GoodV
 use Rattle.dictionaries.specs.Written.All.{empty, and}
 use Rattle.dictionaries.proofs.Laws.{last-fold, fold-nil, fold-same, fold-other}
 use Rattle.dictionaries.proofs.ReadBack.{written-back}
-use Rattle.declarations.specs.Allowlists.{Allowlist, anyAdmits, listAdmits, allows}
-use Rattle.declarations.specs.Allowlists.Allowlist.{all, listed}
-use Rattle.declarations.specs.Declarations.{valueDeclares, declares, isMalformed}
+use Rattle.allowlists.specs.Allowlists.{Allowlist, anyAdmits, listAdmits, allows, someAdmits}
+use Rattle.allowlists.specs.Allowlists.Allowlist.{all, listed}
+use Rattle.allowlists.proofs.Laws.{any-nil, any-cons, listed-admits, some-admits}
+use Rattle.declarations.specs.Declarations.{valueDeclares, declares, isMalformed, declaredAdmits}
 use Rattle.ascii.proofs.Bytes.{or-false, or-true}
-use Rattle.declarations.specs.Settings.{someAdmits}
-use Rattle.declarations.proofs.Laws.{some-allows, listed-allows, any-nil, any-cons}
-use Rattle.declarations.proofs.Back.{list-back, self-list-back, star-back, declares-value, declares-none, members-good, declares-good}
+use Rattle.declarations.proofs.Laws.{members-good, declared-told}
+use Rattle.declarations.proofs.Written.{list-back, self-list-back, star-back, declares-value, declares-none, declares-good, declares-no-src}
 use Rattle.tidying.specs.Tidied.{among, unless, onceAfter, normalsOf, sourceItem, selfItem, tidyValue, withMember, tidyFrom, tidyMembers, tidied, SamePolicy}
 use Rattle.tidying.specs.Tidied.SamePolicy.{undeclared, everything, lists}
 use Rattle.tidying.specs.Answers.{tidyAnswer, runAfter}
@@ -78,10 +78,10 @@ unfolding selfItem
 list-good true g = and {x = token (text "self")} self-good (items-good g)
 list-good false g = items-good g
 
--- an allowlist whose expressions are such as a text can say
+-- an allowlist whose expressions are such as a text can say, without a src-origin
 abbrev GoodList : Option Allowlist → Type 0
 GoodList (some all) = Unit {0}
-GoodList (some (listed own es)) = All GoodExpression es
+GoodList (some (listed own src es)) = (src ≡ false) × All GoodExpression es
 GoodList none = Unit {0}
 
 declared-good : (s : List ℕ) (n : ℕ) → GoodList (declares s n)
@@ -89,13 +89,13 @@ declared-good s n = go (declares s n) refl
   where
     go : (d : Option Allowlist) → declares s n ≡ d → GoodList d
     go (some all) e = tt
-    go (some (listed own es)) e = declares-good s n own es e
+    go (some (listed own src es)) e = (declares-no-src s n own src es e, declares-good s n own src es e)
     go none e = tt
 
 value-good : (l : Allowlist) → GoodList (some l) → GoodValue (tidyValue l)
 unfolding tidyValue
 value-good all g = star-good
-value-good (listed own es) g = list-good own (good-list g)
+value-good (listed own src es) g = list-good own (good-list (g .1))
 
 member-good : (n : ℕ) (l : Allowlist) → n < featureCount → GoodList (some l) → GoodMember (record { key = nameOf n; value = tidyValue l })
 member-good n l h g = record { key = record { starts = name-starts n h; bytes = name-bytes n h }; value = value-good l g }
@@ -152,14 +152,14 @@ find-fold d j n (suc k) h g m = go (eqb n j) refl (λ a. find-fold d j (suc n) k
 -- what a tidied header declares, feature by feature: the same with normal forms, each once
 abbrev canonical : Option Allowlist → Option Allowlist
 canonical (some all) = some all
-canonical (some (listed own es)) = some (listed own (normalsOf es))
+canonical (some (listed own src es)) = some (listed own false (normalsOf es))
 canonical none = none
 
 value-back : (l : Allowlist) → GoodList (some l) → valueDeclares (tidyValue l) ≡ canonical (some l)
 unfolding tidyValue selfItem
 value-back all g = star-back
-value-back (listed true es) g = self-list-back (normalsOf es) (good-list g)
-value-back (listed false es) g = list-back (normalsOf es) (good-list g)
+value-back (listed true src es) g = self-list-back (normalsOf es) (good-list (g .1))
+value-back (listed false src es) g = list-back (normalsOf es) (good-list (g .1))
 
 last-is : (s : List ℕ) (n : ℕ) → n < featureCount → lastValueIn (nameOf n) (some (tidyMembers (declares s))) ≡ some (valueIn (declares s n) none)
 last-is s n h = last-fold (nameOf n) (tidyMembers (declares s)) ∙ ap some (find-fold (declares s) n 0 featureCount (omega arith) (omega arith) (omega arith))
@@ -228,13 +228,13 @@ pub tidied-good : (s : List ℕ) → isMalformed (tidied s) ≡ false
 tidied-good s = members-good (tidied s) (tidyMembers (declares s)) (tidied-members s)
 
 -- ... and declares the same policy
-same-policy : (d : Option Allowlist) → SamePolicy d (canonical d)
-same-policy (some all) = everything
-same-policy (some (listed own es)) = lists own es (normalsOf es) (sym (normals-once es))
-same-policy none = undeclared
+same-policy : (d : Option Allowlist) → GoodList d → SamePolicy d (canonical d)
+same-policy (some all) g = everything
+same-policy (some (listed own src es)) g = rw (g .0) (lists own es (normalsOf es) (sym (normals-once es)))
+same-policy none g = undeclared
 
 pub tidied-same : (s : List ℕ) (n : ℕ) → n < featureCount → SamePolicy (declares s n) (declares (tidied s) n)
-tidied-same s n h = rw (tidied-declares s n h) (same-policy (declares s n))
+tidied-same s n h = rw (tidied-declares s n h) (same-policy (declares s n) (declared-good s n))
 
 -- dropping repetitions takes no origin away
 or-in : (a b : Bool) → (a ≡ true → b ≡ true) → a || b ≡ b
@@ -286,37 +286,38 @@ any-normals es o =
     let k : anyAdmits (onceAfter [] (map normal es)) o || anyAdmits [] o ≡ anyAdmits (map normal es) o || anyAdmits [] o = any-once [] (map normal es) o in
     sym (or-false (anyAdmits (normalsOf es) o)) ∙ ((rw (any-nil o) at k) ∙ (or-false (anyAdmits (map normal es) o) ∙ any-normal es o))
 
--- hence the same policy admits the same origins, for every own origin and every origin asked about
-same-by : {a b : Option Allowlist} → SamePolicy a b → (l m : Allowlist) → a ≡ some l → b ≡ some m → (own o : Origin) → allows l own o ≡ allows m own o
-same-by undeclared l m e f own o = clash cc
-same-by everything l m e f own o =
+-- hence the same policy admits the same origins, whatever the self-origin and the src-origin are
+same-by : {a b : Option Allowlist} → SamePolicy a b → (l m : Allowlist) → a ≡ some l → b ≡ some m → (mine theirs : Bool) (o : Origin) → listAdmits l mine theirs o ≡ listAdmits m mine theirs o
+same-by undeclared l m e f mine theirs o = clash cc
+same-by everything l m e f mine theirs o =
     let p : all ≡ l = cc in
     let q : all ≡ m = cc in
     rw (← p, ← q)
-same-by (lists b es fs n) l m e f own o =
-    let p : listed b es ≡ l = cc in
-    let q : listed b fs ≡ m = cc in
+same-by (lists b es fs n) l m e f mine theirs o =
+    let p : listed b false es ≡ l = cc in
+    let q : listed b false fs ≡ m = cc in
     let k : anyAdmits es o ≡ anyAdmits fs o = sym (any-normals es o) ∙ (ap (λ (x : List SourceExpression). anyAdmits x o) n ∙ any-normals fs o) in
-    rw (← p, ← q, listed-allows b es own o, listed-allows b fs own o, k)
+    rw (← p, ← q, listed-admits b false es mine theirs o, listed-admits b false fs mine theirs o, k)
 
-pub same-admits : (l m : Allowlist) → SamePolicy (some l) (some m) → (own o : Origin) → allows l own o ≡ allows m own o
-same-admits l m h own o = same-by h l m refl refl own o
+pub same-admits : (l m : Allowlist) → SamePolicy (some l) (some m) → (own declared o : Origin) → allows l own declared o ≡ allows m own declared o
+same-admits l m h own declared o = same-by h l m refl refl (sameOrigin own o) (sameOrigin declared o) o
 
-same-answers : {a b : Option Allowlist} → SamePolicy a b → (own o : Origin) → someAdmits a (sameOrigin own o) o ≡ someAdmits b (sameOrigin own o) o
-same-answers undeclared own o = refl
-same-answers everything own o = refl
-same-answers (lists b es fs k) own o =
-    rw (some-allows (listed b es) own o, some-allows (listed b fs) own o, same-admits (listed b es) (listed b fs) (lists b es fs k) own o)
+same-answers : {a b : Option Allowlist} → SamePolicy a b → (mine theirs : Bool) (o : Origin) → someAdmits a mine theirs o ≡ someAdmits b mine theirs o
+same-answers undeclared mine theirs o = refl
+same-answers everything mine theirs o = refl
+same-answers (lists b es fs k) mine theirs o =
+    rw (some-admits (listed b false es) mine theirs o, some-admits (listed b false fs) mine theirs o, same-by (lists b es fs k) (listed b false es) (listed b false fs) refl refl mine theirs o)
 
 -- demand 2: "read again, declares the same policy": every feature's list answers alike for every own origin and every origin asked about, and there is no list in one alone
-pub tidied-admits : (s : List ℕ) (n : ℕ) → n < featureCount → (own o : Origin) → someAdmits (declares s n) (sameOrigin own o) o ≡ someAdmits (declares (tidied s) n) (sameOrigin own o) o
-tidied-admits s n h own o = same-answers (tidied-same s n h) own o
+pub tidied-admits : (s : List ℕ) (n : ℕ) → n < featureCount → (own o : Origin) → declaredAdmits (declares s n) own o ≡ declaredAdmits (declares (tidied s) n) own o
+tidied-admits s n h own o =
+    sym (declared-told (declares s n) (sameOrigin own o) own o refl) ∙ (same-answers (tidied-same s n h) (sameOrigin own o) false o ∙ declared-told (declares (tidied s) n) (sameOrigin own o) own o refl)
 
 -- demand 2: and tidies to the same bytes
 value-same : (d : Option Allowlist) (n : ℕ) (ms : List Plain) → withMember n (canonical d) ms ≡ withMember n d ms
 unfolding withMember tidyValue
 value-same (some all) n ms = refl
-value-same (some (listed own es)) n ms = rw (normals-once es)
+value-same (some (listed own src es)) n ms = rw (normals-once es)
 value-same none n ms = refl
 
 from-same : (s : List ℕ) (n k : ℕ) → n + k ≤ featureCount → tidyFrom (declares (tidied s)) n k ≡ tidyFrom (declares s) n k

@@ -44,10 +44,12 @@ module _ (sep l : List ℕ) (at : ℕ) (any : Bool) where
   pub spelling-none : Spelling sep l at any [] l (record { to = at; any = any })
   spelling-none = record { text = rw (following-none any sep) (adding-none l at); some = unfold isSome in sym (or-false any) }
 
-  -- one
+  -- one, with what stands before it
+  pub spelling-whole : (n t : List ℕ) (r : ℕ) → Adding l at (pick any sep [] ++ t) n r → Spelling sep l at any (t ∷ []) n (record { to = r; any = true })
+  spelling-whole n t r a = record { text = rw (following-one any sep t) a; some = unfold isSome in sym (or-true any) }
+
   pub spelling-one : (m n t : List ℕ) (o r : ℕ) → Adding l at (pick any sep []) m o → Adding m o t n r → Spelling sep l at any (t ∷ []) n (record { to = r; any = true })
-  spelling-one m n t o r a b =
-      record { text = rw (following-one any sep t) (adding-on l m n at o r (pick any sep []) t a b); some = unfold isSome in sym (or-true any) }
+  spelling-one m n t o r a b = spelling-whole n t r (adding-on l m n at o r (pick any sep []) t a b)
 
   -- some, and then others
   pub spelling-on : (m n : List ℕ) (x y : Added) (ts us : List (List ℕ)) → Spelling sep l at any ts m x → Spelling sep m (x .to) (x .any) us n y → Spelling sep l at any (ts ++ us) n y

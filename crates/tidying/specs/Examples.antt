@@ -1,26 +1,12 @@
 -- Document 01's example of a tidied header, whole, and the edges, by computation.
-use Prim.Native.Nat.{ℕ}
 use Prim.Native.String.{String}
 use mathlib.Core.Path.{_≡_, refl}
-use mathlib.Core.List.{List, [], _∷_, map}
-use mathlib.Core.Bool.{Bool, true, false}
-use Rattle.ascii.specs.Bytes.{pick, lower}
+use mathlib.Core.List.{List, [], _∷_}
+use mathlib.Core.Bool.{Bool, true}
 use Rattle.ascii.specs.Literals.{text}
-use Rattle.ascii.specs.Texts.{every, each, sameBy, sameBytes}
-use Rattle.ascii.specs.Reading.{headOf, headIs, isEmpty, next, skip, letLen, runOf, past, after, mapped, going, adding, onStep, turns}
-use Rattle.features.specs.Features.{features, names, nameOf}
-use Rattle.origins.specs.Computing.{computing as originsComputing}
-use Rattle.origins.specs.Ports.{decimalFrom, isNumber, isPortPart, portPartOf}
-use Rattle.origins.specs.Origins.{startsWith}
-use Rattle.origins.specs.Expressions.{hostPartOf, withParts, hostSourceOf, startsLowered, expressionOf}
-use Rattle.origins.specs.NormalForms.{lastDigits, portPartText, expressionPartsText, normalPort, normal, sameHost, samePort, sameExpression}
-use Rattle.items.specs.Items.{keyOf, tokenOf, booleanOf, bytesOf, fractionOf, unsignedOf, numberOf, stringTurn, stringOf, bareOf, paramOf, paramTurn, paramsOf, itemOf}
-use Rattle.dictionaries.specs.Dictionaries.{innerTurn, innerOf, closedOf, listOf, loneOf, valueOf, bareKey, assignedOf, memberOf, partedOf, dictTurn, readAll, dataOf, plains, plainly}
-use Rattle.dictionaries.specs.Lookup.{into, later, lastValueIn}
-use Rattle.dictionaries.specs.Written.{eachAfter, joinedBy, itemText, valueText, memberText, written}
-use Rattle.declarations.specs.Allowlists.{tokenMeaning, sourceMeaning, meaningOf, hasStar, hasSelf, withSource, sourcesOf, allowlist, allowlistOf}
-use Rattle.declarations.specs.Declarations.{loneDeclares, valueDeclares, lastDeclares, declares}
-use Rattle.tidying.specs.Tidied.{among, unless, onceAfter, selfItem, tidyValue, withMember, tidyFrom, tidied}
+use Rattle.ascii.specs.Texts.{every, sameBytes}
+use Rattle.tidying.specs.Tidied.{tidied}
+use Rattle.tidying.specs.Computing.{computing}
 
 -- a header and its tidied form
 pub data Row : Type 0 where
@@ -39,5 +25,5 @@ rows =
     ∷ []
 
 rows-right : every right rows ≡ true
-unfolding rows every each sameBy lower pick headOf headIs isEmpty next skip letLen runOf past after mapped going adding onStep turns features names nameOf originsComputing decimalFrom isNumber isPortPart portPartOf startsWith hostPartOf withParts hostSourceOf startsLowered expressionOf lastDigits portPartText expressionPartsText normalPort normal sameHost samePort sameExpression keyOf tokenOf booleanOf bytesOf fractionOf unsignedOf numberOf stringTurn stringOf bareOf paramOf paramTurn paramsOf itemOf innerTurn innerOf closedOf listOf loneOf valueOf bareKey assignedOf memberOf partedOf dictTurn readAll dataOf plains plainly into later lastValueIn tokenMeaning sourceMeaning meaningOf hasStar hasSelf withSource sourcesOf allowlist allowlistOf loneDeclares valueDeclares lastDeclares declares eachAfter joinedBy itemText valueText memberText written among unless onceAfter selfItem tidyValue withMember tidyFrom tidied
+unfolding computing rows
 rows-right = refl

@@ -2,4 +2,5 @@ pub mod Tidied
 pub mod Writing
 pub mod Answers
 pub mod Steps
+pub mod Computing
 pub mod Examples

@@ -1,23 +1,14 @@
 -- What the steps of tidying promise of one another.
-use Prim.Native.Nat.{ℕ, _+_, _<_}
+use Prim.Native.Nat.{ℕ, _+_}
 use mathlib.Core.Path.{_≡_}
-use mathlib.Core.List.{List, [], _∷_, _++_, map}
+use mathlib.Core.List.{List, [], _∷_, map}
 use mathlib.Core.Bool.{Bool, true, false, _||_}
 use lib.ListN.{length}
 use lib.Seq.{paste}
-use Rattle.ascii.specs.Literals.{text}
 use Rattle.origins.specs.Expressions.{SourceExpression}
 use Rattle.origins.specs.NormalForms.{normal}
-use Rattle.items.specs.Found.{itemIn}
-use Rattle.items.specs.declared.ItemFound.{ItemFound}
-use Rattle.dictionaries.specs.Dictionaries.{Value}
-use Rattle.dictionaries.specs.Lookup.{cursorAt}
 use Rattle.dictionaries.specs.Written.{eachAfter, joinedBy, itemText}
-use Rattle.dictionaries.specs.declared.ListItem.the-variants as list
-use Rattle.declarations.specs.Allowlists.{meaningOf, withSource, sourcesOf, allowlist}
-use Rattle.declarations.specs.Settings.{itemsAt}
-use Rattle.declarations.specs.declared.Setting.{Setting}
-use Rattle.tidying.specs.Tidied.{among, onceAfter, sourceItem, tidyValue}
+use Rattle.tidying.specs.Tidied.{among, unless, normalsOf, sourceItem}
 use Rattle.tidying.specs.Writing.{Adding}
 use Rattle.tidying.specs.declared.Added.{Added}
 
@@ -45,33 +36,14 @@ pub record Spelling (sep before : List ℕ) (at : ℕ) (any : Bool) (ts : List (
   pub text : Adding before at (following any sep ts) after (r .to)
   pub some : r .any ≡ any || isSome ts
 
--- the normal forms of an inner list's expressions from a cursor up to another
-pub data Between (s : List ℕ) : ℕ → ℕ → List SourceExpression → Type 0 where
-  here : (c : ℕ) → Between s c c []
-  step : (c d : ℕ) (f : ItemFound) (es : List SourceExpression) → cursorAt s c ≡ list.Item f → c < f .next → Between s (f .next) d es → Between s c d (map normal (withSource (meaningOf (itemIn s (f .range))) []) ++ es)
-
--- the same expressions, in whatever order
-pub record Before (s : List ℕ) (c d : ℕ) (before : List SourceExpression) : Type 0 where
-  pub passed : List SourceExpression
-  pub between : Between s c d passed
-  pub same : (e : SourceExpression) → among e before ≡ among e passed
-
--- whether an expression's normal form stands in a list before a cursor
-pub record IsSeen (s : List ℕ) (first upto : ℕ) (e : SourceExpression) (r : Bool) : Type 0 where
-  pub is : (before : List SourceExpression) → Before s first upto before → r ≡ among (normal e) before
-
 -- an expression's normal form as a string
 abbrev pub sourceText : SourceExpression → List ℕ
 sourceText e = itemText (sourceItem (normal e))
 
--- expressions as they are written, each once, but for those that stand before
-unfoldable pub sourceTexts : List SourceExpression → List SourceExpression → List (List ℕ)
-sourceTexts before es = map itemText (map sourceItem (onceAfter before (map normal es)))
+-- expressions as they are written, each once
+unfoldable pub sourceTexts : List SourceExpression → List (List ℕ)
+sourceTexts es = map itemText (map sourceItem (normalsOf es))
 
--- the expressions of an item were added, but for those that stand before it in its list
-pub record ItemAdded (s : List ℕ) (first upto : ℕ) (es : List SourceExpression) (old : List ℕ) (at : ℕ) (any : Bool) (new : List ℕ) (r : Added) : Type 0 where
-  pub adds : (before : List SourceExpression) → Before s first upto before → Spelling (text " ") old at any (sourceTexts before es) new r
-
--- the value of a declared feature
-abbrev pub listOf : List ℕ → Setting → Value
-listOf s d = tidyValue (allowlist (d .all) (d .own) (sourcesOf (itemsAt s (d .items))))
+-- an expression as it is written after others: not at all if one of them has its normal form
+unfoldable pub newText : List SourceExpression → SourceExpression → List (List ℕ)
+newText es e = map itemText (map sourceItem (unless (among (normal e) (map normal es)) (normal e) []))

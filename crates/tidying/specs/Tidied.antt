@@ -14,8 +14,8 @@ use Rattle.items.specs.Items.Item.{token, string}
 use Rattle.dictionaries.specs.Dictionaries.{Value, Plain}
 use Rattle.dictionaries.specs.Dictionaries.Value.{one, many}
 use Rattle.dictionaries.specs.Written.{written}
-use Rattle.declarations.specs.Allowlists.{Allowlist}
-use Rattle.declarations.specs.Allowlists.Allowlist.{all, listed}
+use Rattle.allowlists.specs.Allowlists.{Allowlist}
+use Rattle.allowlists.specs.Allowlists.Allowlist.{all, listed}
 use Rattle.declarations.specs.Declarations.{declares}
 
 -- whether an expression is one of several
@@ -46,10 +46,10 @@ unfoldable pub selfItem : Bool → List Item
 selfItem true = token (text "self") ∷ []
 selfItem false = []
 
--- "`name=*`, else `name=(...)`"
+-- "`name=*`, else `name=(...)`"; a header's list has no src-origin
 unfoldable pub tidyValue : Allowlist → Value
 tidyValue all = one (token (text "*"))
-tidyValue (listed own es) = many (selfItem own ++ map sourceItem (normalsOf es))
+tidyValue (listed own src es) = many (selfItem own ++ map sourceItem (normalsOf es))
 
 -- a declared feature's member before others
 unfoldable pub withMember : ℕ → Option Allowlist → List Plain → List Plain
@@ -74,4 +74,4 @@ tidied s = written (tidyMembers (declares s))
 pub data SamePolicy : Option Allowlist → Option Allowlist → Type 0 where
   undeclared : SamePolicy none none
   everything : SamePolicy (some all) (some all)
-  lists : (own : Bool) (es fs : List SourceExpression) → normalsOf es ≡ normalsOf fs → SamePolicy (some (listed own es)) (some (listed own fs))
+  lists : (own : Bool) (es fs : List SourceExpression) → normalsOf es ≡ normalsOf fs → SamePolicy (some (listed own false es)) (some (listed own false fs))

@@ -1,37 +1,34 @@
-// Tidied headers: written into a buffer of the limit's size, then copied to the lent run.
+// Tidied headers: written from settled lists into a buffer of the limit's size, then copied to the lent run.
 ghost use mathlib.Core.Path.{_≡_};
 ghost use mathlib.Core.List.{[], _∷_, _++_, map};
+ghost use mathlib.Core.Bool.{false};
 ghost use Prim.Native.Nat.{_+_, _≤_};
-ghost use lib.ListN.{length};
+ghost use lib.ListN.{length, drop};
 ghost use Rattle.limits.specs.Limits.{textBytes};
 ghost use Rattle.ascii.specs.Bytes.{pick};
 ghost use Rattle.ascii.specs.Literals.{text};
-ghost use Rattle.ascii.specs.Texts.{lowered};
 ghost use Rattle.features.specs.Features.{nameOf};
 ghost use Rattle.origins.specs.Origins.{schemeText, schemeSlashes};
-ghost use Rattle.origins.specs.Answers.{expressionIn};
+ghost use Rattle.origins.specs.Answers.{expressionBy};
 ghost use Rattle.origins.specs.NormalForms.{normal, normalForm, portPartText};
-ghost use Rattle.items.specs.Found.{itemIn};
-ghost use Rattle.dictionaries.specs.Lookup.{itemsFrom};
-ghost use Rattle.dictionaries.specs.Written.{valueText, memberText};
-ghost use Rattle.declarations.specs.Allowlists.{meaningOf, withSource, sourcesOf};
-ghost use Rattle.declarations.specs.Settings.{itemsAt, settingAs, IsSettled};
-ghost use Rattle.tidying.specs.Tidied.{among, withMember, tidied};
+ghost use Rattle.dictionaries.specs.Written.{valueText, memberText, written};
+ghost use Rattle.allowlists.specs.Allowlists.Allowlist.{listed};
+ghost use Rattle.settled.specs.Settled.{expressionsFrom, declaredIn};
+ghost use Rattle.tidying.specs.Tidied.{among, tidyValue, withMember, tidyMembers};
 ghost use Rattle.tidying.specs.Writing.{Adding};
 ghost use Rattle.tidying.specs.Answers.{IsTidied};
-ghost use Rattle.tidying.specs.Steps.{IsPut, Spelling, IsSeen, ItemAdded, sourceText, sourceTexts, listOf};
-use declarations::Cursor;
-use declarations::ItemMeaning;
-use declarations::Setting;
-use declarations::Settings;
-use dictionaries::ListItem;
-use items::ItemRange;
+ghost use Rattle.tidying.specs.Steps.{IsPut, Spelling, sourceText, sourceTexts, newText};
 use limits::Refusal;
 use limits::TEXT_BYTES;
-use origins::ExpressionRange;
+use origins::ExpressionParts;
 use origins::HostKind;
 use origins::PortPart;
 use origins::Scheme;
+use settled::ExpressionFound;
+use settled::HEAD;
+use settled::ListFound;
+use settled::ListRange;
+use settling::Settled;
 
 // The length of the tidied form, or a refusal.
 pub enum TidyAnswer {
@@ -60,21 +57,6 @@ fn put(out: &mut [u8], at: usize, t: &[u8]) -> usize
     o
 }
 
-// The same, in lower case.
-fn put_lowered(out: &mut [u8], at: usize, t: &[u8]) -> usize
-    requires { ⌜ at + length (now t) ≤ length (now out) ⌝ }
-    ensures { λ r. ⌜ IsPut (now (out .entry)) at (lowered (now (t .entry))) (now (out .exit)) r ⌝ }
-{
-    let mut j: usize = 0;
-    let mut o = at;
-    while j < t.len() {
-        out[o] = ascii::lower(t[j]);
-        o += 1;
-        j += 1;
-    }
-    o
-}
-
 // Adds a text to one that the buffer holds up to a place; a place past the buffer's end says that the text is too long.
 fn add(buf: &mut [u8], at: usize, t: &[u8]) -> usize
     requires { ⌜ length (now buf) ≡ textBytes ⌝ }
@@ -87,20 +69,6 @@ fn add(buf: &mut [u8], at: usize, t: &[u8]) -> usize
         return TEXT_BYTES + 1;
     }
     put(buf, at, t)
-}
-
-// The same, in lower case.
-fn add_lowered(buf: &mut [u8], at: usize, t: &[u8]) -> usize
-    requires { ⌜ length (now buf) ≡ textBytes ⌝ }
-    ensures { λ r. ⌜ Adding (now (buf .entry)) at (lowered (now (t .entry))) (now (buf .exit)) r ⌝ }
-{
-    if TEXT_BYTES < at {
-        return TEXT_BYTES + 1;
-    }
-    if TEXT_BYTES - at < t.len() {
-        return TEXT_BYTES + 1;
-    }
-    put_lowered(buf, at, t)
 }
 
 // Adds a separator where a text stands before it.
@@ -154,16 +122,15 @@ fn add_port(buf: &mut [u8], at: usize, p: PortPart) -> usize
     }
 }
 
-// Adds the normal form of an expression of the text `x`.
-fn add_expression(buf: &mut [u8], at: usize, x: &[u8], e: ExpressionRange) -> usize
+// Adds the normal form of an expression, by its parts and its host.
+fn add_expression(buf: &mut [u8], at: usize, e: ExpressionParts, h: &[u8]) -> usize
     requires { ⌜ length (now buf) ≡ textBytes ⌝ }
-    ensures { λ r. ⌜ Adding (now (buf .entry)) at (normalForm (expressionIn (now (x .entry)) e)) (now (buf .exit)) r ⌝ }
+    ensures { λ r. ⌜ Adding (now (buf .entry)) at (normalForm (expressionBy e (now (h .entry)))) (now (buf .exit)) r ⌝ }
 {
     let k = e.scheme;
     let kind = e.host;
     let own = e.port;
     let p = origins::normal_port(k, own);
-    let h = ascii::part(x, e.from, e.to);
     match kind {
         HostKind::None => add_scheme(buf, at, k),
         HostKind::Any => {
@@ -173,121 +140,93 @@ fn add_expression(buf: &mut [u8], at: usize, x: &[u8], e: ExpressionRange) -> us
         }
         HostKind::Exact => {
             let a = add_slashes(buf, at, k);
-            let c = add_lowered(buf, a, h);
+            let c = add(buf, a, h);
             add_port(buf, c, p)
         }
         HostKind::Subdomains => {
             let a = add_slashes(buf, at, k);
             let b = add(buf, a, b"*.");
-            let d = add_lowered(buf, b, h);
+            let d = add(buf, b, h);
             add_port(buf, d, p)
         }
     }
 }
 
-// Whether an item is an expression with the normal form of another, which stands in the text `x`.
-fn item_is(s: &[u8], item: ItemRange, x: &[u8], e: ExpressionRange) -> bool
-    ensures { λ r. ⌜ r ≡ among (normal (expressionIn (now (x .entry)) e)) (map normal (withSource (meaningOf (itemIn (now (s .entry)) item)) [])) ⌝ }
+// Whether one of so many expressions from a place on has the normal form of another.
+fn seen(d: &[u8], first: usize, count: usize, e: ExpressionParts, h: &[u8]) -> bool
+    ensures { λ r. ⌜ r ≡ among (normal (expressionBy e (now (h .entry)))) (map normal (expressionsFrom count (drop first (now (d .entry))))) ⌝ }
 {
-    match declarations::meaning(s, item) {
-        ItemMeaning::All => false,
-        ItemMeaning::Own => false,
-        ItemMeaning::Source(f) => {
-            let y = ascii::part(s, item.from, item.to);
-            origins::same_normal(x, e, y, f)
-        }
-        ItemMeaning::Nothing => false,
-    }
-}
-
-// Whether an expression with the normal form of another stands in an inner list before a cursor.
-fn seen(s: &[u8], first: usize, upto: usize, x: &[u8], e: ExpressionRange) -> bool
-    ensures { λ r. ⌜ IsSeen (now (s .entry)) first upto (expressionIn (now (x .entry)) e) r ⌝ }
-{
-    let mut c = first;
-    while c != upto {
-        match dictionaries::item_at(s, c) {
-            ListItem::Item(f) => {
-                let item = f.range;
-                if item_is(s, item, x, e) {
+    let mut p = first;
+    let mut left = count;
+    while 0 < left {
+        match settled::expression_at(d, p) {
+            ExpressionFound::Expression(f) => {
+                let parts = f.parts;
+                if origins::same_parts(e, h, parts, ascii::part(d, f.from, f.to)) {
                     return true;
                 }
-                c = f.next;
+                p = f.to;
+                left -= 1;
             }
-            ListItem::End => return false,
+            ExpressionFound::None => return false,
         }
     }
     false
 }
 
 // Adds the normal form of an expression as a string.
-fn add_string(buf: &mut [u8], at: usize, any: bool, x: &[u8], e: ExpressionRange) -> Added
+fn add_string(buf: &mut [u8], at: usize, any: bool, e: ExpressionParts, h: &[u8]) -> Added
     requires { ⌜ length (now buf) ≡ textBytes ⌝ }
-    ensures { λ r. ⌜ Spelling (text " ") (now (buf .entry)) at any (sourceText (expressionIn (now (x .entry)) e) ∷ []) (now (buf .exit)) r ⌝ }
+    ensures { λ r. ⌜ Spelling (text " ") (now (buf .entry)) at any (sourceText (expressionBy e (now (h .entry))) ∷ []) (now (buf .exit)) r ⌝ }
 {
     let a = add_separator(buf, at, any, b" ");
     let b = add(buf, a, b"\"");
-    let d = add_expression(buf, b, x, e);
+    let d = add_expression(buf, b, e, h);
     let to = add(buf, d, b"\"");
     Added { to, any: true }
 }
 
-// Adds an item's expression, unless one with its normal form stands before it in the list.
-fn add_item(
-    s: &[u8],
-    item: ItemRange,
+// Adds an expression, unless one of so many before it has its normal form.
+fn add_source(
+    d: &[u8],
     first: usize,
-    upto: usize,
+    count: usize,
+    e: ExpressionParts,
+    h: &[u8],
     buf: &mut [u8],
     at: usize,
     any: bool,
 ) -> Added
     requires { ⌜ length (now buf) ≡ textBytes ⌝ }
-    ensures { λ r. ⌜ ItemAdded (now (s .entry)) first upto (withSource (meaningOf (itemIn (now (s .entry)) item)) []) (now (buf .entry)) at any (now (buf .exit)) r ⌝ }
+    ensures { λ r. ⌜ Spelling (text " ") (now (buf .entry)) at any (newText (expressionsFrom count (drop first (now (d .entry)))) (expressionBy e (now (h .entry)))) (now (buf .exit)) r ⌝ }
 {
-    match declarations::meaning(s, item) {
-        ItemMeaning::All => Added { to: at, any },
-        ItemMeaning::Own => Added { to: at, any },
-        ItemMeaning::Source(e) => {
-            let x = ascii::part(s, item.from, item.to);
-            if seen(s, first, upto, x, e) {
-                return Added { to: at, any };
-            }
-            add_string(buf, at, any, x, e)
-        }
-        ItemMeaning::Nothing => Added { to: at, any },
+    if seen(d, first, count, e, h) {
+        return Added { to: at, any };
     }
+    add_string(buf, at, any, e, h)
 }
 
-// Adds the expressions of an inner list, each once.
-fn add_list(s: &[u8], first: usize, buf: &mut [u8], at: usize, any: bool) -> Added
+// Adds so many expressions from a place on, each once.
+fn add_sources(d: &[u8], first: usize, count: usize, buf: &mut [u8], at: usize, any: bool) -> Added
     requires { ⌜ length (now buf) ≡ textBytes ⌝ }
-    ensures { λ r. ⌜ Spelling (text " ") (now (buf .entry)) at any (sourceTexts [] (sourcesOf (itemsFrom (now (s .entry)) first))) (now (buf .exit)) r ⌝ }
+    ensures { λ r. ⌜ Spelling (text " ") (now (buf .entry)) at any (sourceTexts (expressionsFrom count (drop first (now (d .entry))))) (now (buf .exit)) r ⌝ }
 {
-    let mut c = first;
+    let mut p = first;
+    let mut i: usize = 0;
     let mut n = Added { to: at, any };
-    loop {
-        match dictionaries::item_at(s, c) {
-            ListItem::Item(f) => {
-                let item = f.range;
-                n = add_item(s, item, first, c, buf, n.to, n.any);
-                c = f.next;
+    while i < count {
+        match settled::expression_at(d, p) {
+            ExpressionFound::Expression(e) => {
+                let parts = e.parts;
+                let h = ascii::part(d, e.from, e.to);
+                n = add_source(d, first, i, parts, h, buf, n.to, n.any);
+                p = e.to;
+                i += 1;
             }
-            ListItem::End => return n,
+            ExpressionFound::None => return n,
         }
     }
-}
-
-// Adds the expressions of an allowlist, each once.
-fn add_sources(s: &[u8], items: Cursor, buf: &mut [u8], at: usize, any: bool) -> Added
-    requires { ⌜ length (now buf) ≡ textBytes ⌝ }
-    ensures { λ r. ⌜ Spelling (text " ") (now (buf .entry)) at any (sourceTexts [] (sourcesOf (itemsAt (now (s .entry)) items))) (now (buf .exit)) r ⌝ }
-{
-    match items {
-        Cursor::End => Added { to: at, any },
-        Cursor::Item(item) => add_item(s, item, 0, 0, buf, at, any),
-        Cursor::List(first) => add_list(s, first, buf, at, any),
-    }
+    n
 }
 
 // Adds `self` where a list has it.
@@ -301,58 +240,60 @@ fn add_self(buf: &mut [u8], at: usize, own: bool) -> usize
     at
 }
 
-// Adds an allowlist: `*`, or an inner list.
-fn add_value(s: &[u8], d: Setting, buf: &mut [u8], at: usize) -> usize
+// Adds an allowlist without `*`, an inner list.
+fn add_list(d: &[u8], l: ListRange, buf: &mut [u8], at: usize) -> usize
     requires { ⌜ length (now buf) ≡ textBytes ⌝ }
-    ensures { λ r. ⌜ Adding (now (buf .entry)) at (valueText (listOf (now (s .entry)) d)) (now (buf .exit)) r ⌝ }
+    ensures { λ r. ⌜ Adding (now (buf .entry)) at (valueText (tidyValue (listed (l .own) false (expressionsFrom (l .count) (drop (l .at) (now (d .entry))))))) (now (buf .exit)) r ⌝ }
 {
-    let own = d.own;
-    let items = d.items;
-    if d.all {
-        return add(buf, at, b"*");
-    }
+    let own = l.own;
     let a = add(buf, at, b"(");
     let b = add_self(buf, a, own);
-    let n = add_sources(s, items, buf, b, own);
+    let n = add_sources(d, l.at, l.count, buf, b, own);
     add(buf, n.to, b")")
 }
 
-// Adds the name of a feature and `=`.
-fn add_name(buf: &mut [u8], at: usize, n: u32) -> usize
+// Adds the name of a feature and `=`, and a separator before them where a member stands before.
+fn add_key(buf: &mut [u8], at: usize, any: bool, n: u32) -> usize
     requires { ⌜ length (now buf) ≡ textBytes ⌝ }
-    ensures { λ r. ⌜ Adding (now (buf .entry)) at (nameOf n ++ text "=") (now (buf .exit)) r ⌝ }
+    ensures { λ r. ⌜ Adding (now (buf .entry)) at (pick any (text ", ") [] ++ (nameOf n ++ text "=")) (now (buf .exit)) r ⌝ }
 {
     let name = features::name_of(n);
     let bytes = name.bytes;
     let len = name.len;
-    let a = add(buf, at, &bytes[..len]);
-    add(buf, a, b"=")
-}
-
-// Adds the member of a feature that is declared.
-fn add_member(s: &[u8], d: Setting, n: u32, buf: &mut [u8], at: usize, any: bool) -> Added
-    requires { ⌜ length (now buf) ≡ textBytes ⌝ }
-    ensures { λ r. ⌜ Spelling (text ", ") (now (buf .entry)) at any (map memberText (withMember n (settingAs (now (s .entry)) d) [])) (now (buf .exit)) r ⌝ }
-{
-    if !d.declared {
-        return Added { to: at, any };
-    }
     let a = add_separator(buf, at, any, b", ");
-    let b = add_name(buf, a, n);
-    let to = add_value(s, d, buf, b);
-    Added { to, any: true }
+    let b = add(buf, a, &bytes[..len]);
+    add(buf, b, b"=")
 }
 
-// Adds the tidied form of a header.
-fn fill(s: &[u8], kept: Settings, buf: &mut [u8]) -> usize
-    requires { ⌜ IsSettled (now s) kept × (length (now buf) ≡ textBytes) ⌝ }
-    ensures { λ r. ⌜ Adding (now (buf .entry)) 0 (tidied (now (s .entry))) (now (buf .exit)) r ⌝ }
+// Adds the member of a feature, if it is declared.
+fn add_member(d: &[u8], n: u32, buf: &mut [u8], at: usize, any: bool) -> Added
+    requires { ⌜ length (now buf) ≡ textBytes ⌝ }
+    ensures { λ r. ⌜ Spelling (text ", ") (now (buf .entry)) at any (map memberText (withMember n (declaredIn (now (d .entry)) n) [])) (now (buf .exit)) r ⌝ }
+{
+    match settled::list_of(d, n) {
+        ListFound::Undeclared => Added { to: at, any },
+        ListFound::All => {
+            let a = add_key(buf, at, any, n);
+            let to = add(buf, a, b"*");
+            Added { to, any: true }
+        }
+        ListFound::Listed(l) => {
+            let a = add_key(buf, at, any, n);
+            let to = add_list(d, l, buf, a);
+            Added { to, any: true }
+        }
+    }
+}
+
+// Adds what settled bytes declare, feature by feature.
+fn fill(d: &[u8], buf: &mut [u8]) -> usize
+    requires { ⌜ length (now buf) ≡ textBytes ⌝ }
+    ensures { λ r. ⌜ Adding (now (buf .entry)) 0 (written (tidyMembers (declaredIn (now (d .entry))))) (now (buf .exit)) r ⌝ }
 {
     let mut n = Added { to: 0, any: false };
-    let mut i: usize = 0;
-    while i < features::COUNT {
-        let d = kept.features[i];
-        n = add_member(s, d, i as u32, buf, n.to, n.any);
+    let mut i: u32 = 0;
+    while i < features::COUNT as u32 {
+        n = add_member(d, i, buf, n.to, n.any);
         i += 1;
     }
     n.to
@@ -362,21 +303,24 @@ fn fill(s: &[u8], kept: Settings, buf: &mut [u8]) -> usize
 pub fn tidy(s: &[u8], out: &mut [u8]) -> TidyAnswer
     ensures { λ r. ⌜ IsTidied (now (s .entry)) (now (out .entry)) (now (out .exit)) r ⌝ }
 {
-    if TEXT_BYTES < s.len() {
-        return TidyAnswer::Refused(Refusal::TooLong); // the input
+    let mut d = [0u8; HEAD + TEXT_BYTES];
+    match settling::settle(s, &mut d) {
+        Settled::TooLong => TidyAnswer::Refused(Refusal::TooLong), // the input
+        Settled::Small => TidyAnswer::Refused(Refusal::Small), // never: there is room for every header
+        Settled::Header(f) => {
+            if f.malformed {
+                return TidyAnswer::Refused(Refusal::NotADictionary);
+            }
+            let mut buf = [0u8; TEXT_BYTES];
+            let n = fill(&d, &mut buf);
+            if TEXT_BYTES < n {
+                return TidyAnswer::Refused(Refusal::TooLong); // the output
+            }
+            if out.len() < n {
+                return TidyAnswer::Refused(Refusal::Small);
+            }
+            let to = put(out, 0, &buf[..n]);
+            TidyAnswer::Length(to)
+        }
     }
-    let kept = declarations::settle(s);
-    if kept.malformed {
-        return TidyAnswer::Refused(Refusal::NotADictionary);
-    }
-    let mut buf = [0u8; TEXT_BYTES];
-    let n = fill(s, kept, &mut buf);
-    if TEXT_BYTES < n {
-        return TidyAnswer::Refused(Refusal::TooLong); // the output
-    }
-    if out.len() < n {
-        return TidyAnswer::Refused(Refusal::Small);
-    }
-    let to = put(out, 0, &buf[..n]);
-    TidyAnswer::Length(to)
 }

@@ -8,10 +8,10 @@ use Rattle.features.proofs.feature_of.Statement.{statement}
 use Rattle.features.proofs.feature_of.Tie as tie
 
 abbrev Inv-loop : tie.InvT-loop
-Inv-loop word n₀ n = (n ≤ featureCount) × (placeFrom n word (drop n names) ≡ featureOf word)
+Inv-loop word t n₀ n = (n ≤ featureCount) × (placeFrom n word (drop n names) ≡ featureOf word)
 
 abbrev μ-loop : tie.MeasureT-loop
-μ-loop word n₀ n = featureCount - n
+μ-loop word t n₀ n = featureCount - n
 
 pub feature-of-spec : {M : Type 1} → statement M
 feature-of-spec =
@@ -19,6 +19,10 @@ feature-of-spec =
     (tie.spec
     Inv-loop
     μ-loop
+    (λ c κs. search finds)
+    (λ c. search finds)
+    (λ c. search finds)
+    (λ c. search finds)
     (λ c. search finds)
     (λ c. search finds)
     (λ c κs. search finds)

@@ -11,10 +11,10 @@ use Rattle.tidying.proofs.fill.Statement.{statement}
 use Rattle.tidying.proofs.fill.Tie as tie
 
 abbrev Inv-loop : tie.InvT-loop
-Inv-loop s buf₀ kept n₀ i₀ buf n i = (i ≤ featureCount) × (length buf ≡ textBytes) × Filling s i buf₀ buf n
+Inv-loop d buf₀ n₀ i₀ buf n i = (i ≤ featureCount) × (length buf ≡ textBytes) × Filling d i buf₀ buf n
 
 abbrev μ-loop : tie.MeasureT-loop
-μ-loop s buf₀ kept n₀ i₀ buf n i = featureCount - i
+μ-loop d buf₀ n₀ i₀ buf n i = featureCount - i
 
 pub fill-spec : {M : Type 1} → statement M
 fill-spec =
@@ -24,11 +24,9 @@ fill-spec =
     μ-loop
     (λ c. (omega arith, search needs, search filling-start))
     (λ c. search needs)
-    (λ c. omega arith)
-    (λ c. search needs)
     (λ c κs. search needs)
     (λ c. search needs)
-    (λ c. omega arith)
+    (λ c. search needs)
     (λ c. (omega arith, search needs, search filling-on))
     (λ c. search needs)
     (λ c. search filling-end))
