@@ -1,8 +1,7 @@
 -- The laws of the table: its places, and what a look at one more document changes. Assumes nothing.
-use mathlib.Core.Path.{_≡_, refl, sym, ap, _∙_}
+use mathlib.Core.Path.{_≡_, refl, sym, _∙_}
 use mathlib.Core.List.{List, [], _∷_, _++_}
 use mathlib.Core.Bool.{Bool, true, false, _||_}
-use mathlib.Core.Option.{some, none}
 use Prim.Native.Nat.{ℕ, zero, suc, _+_, _-_, _<_, _≤_}
 use native.Mathlib.Numerals.{add-one}
 use native.Mathlib.Omega.{arith}
@@ -22,7 +21,6 @@ use Rattle.document_model.proofs.Laws.{elem-here, elem-end, find-here, find-on,
 use Rattle.document_table.specs.declared.Table.{Table}
 use Rattle.ascii.proofs.Clash.{clash}
 use Rattle.document_table.specs.declared.Found.the-variants as found
-use Rattle.document_table.specs.declared.Serials.{Serials}
 use Rattle.document_table.specs.Tables.{noDocument, docAt, docsIn, view, Sound, IsFound, IsBeneath, IsPushed, IsRemoved, AreSerials}
 use Rattle.document_table.proofs.Table as table-type
 use Rattle.document_records.proofs.Document as document-type
@@ -47,9 +45,9 @@ any-default (x ∷ l) (suc i) y z lt = any-default l i y z (omega arith)
 abbrev pub Seeking : Table → ℕ → ℕ → Type 0
 Seeking t s i = find s (docsIn t) ≡ find s (valuesFrom (docAt t) i (t .count - i))
 
-serial-at : (t : Table) (i s : ℕ) (z : Document) → i < length (t .docs) → docAt t i .identity .serial ≡ getD (t .docs) i z .serial
+serial-at : (t : Table) (i : ℕ) (z : Document) → i < length (t .docs) → docAt t i .identity .serial ≡ getD (t .docs) i z .serial
 unfolding docAt
-serial-at t i s z lt = rw (any-default (t .docs) i z noDocument lt) (document-serial (getD (t .docs) i noDocument))
+serial-at t i z lt = rw (any-default (t .docs) i z noDocument lt) (document-serial (getD (t .docs) i noDocument))
 
 pub seek : (t : Table) (s : ℕ) → Seeking t s 0
 unfolding docsIn
@@ -57,14 +55,14 @@ seek t s = let e : t .count - 0 ≡ t .count = omega arith in rw e refl
 
 module _ (t : Table) (s i : ℕ) (z : Document) (lt : i < length (t .docs)) (h : Seeking t s i) where
   pub seek-on : i < t .count → (getD (t .docs) i z .serial ≡ s → ⊥) → Seeking t s (i + 1)
-  seek-on k e = h ∙ find-on (docAt t) (t .count) i s k (λ q. e (sym (serial-at t i s z lt) ∙ q))
+  seek-on k e = h ∙ find-on (docAt t) (t .count) i s k (λ q. e (sym (serial-at t i z lt) ∙ q))
 
   pub is-found : i < t .count → getD (t .docs) i z .serial ≡ s → IsFound t s (found.At i)
   is-found k e =
       record {
         some-at = λ j q.
             let w : i ≡ j = cc in
-            rw (← w) (k, h ∙ find-here (docAt t) (t .count) i s k (serial-at t i s z lt ∙ e));
+            rw (← w) (k, h ∙ find-here (docAt t) (t .count) i s k (serial-at t i z lt ∙ e));
         none-at = λ q. clash cc;
       }
 
@@ -116,7 +114,7 @@ module _ (l : List Document) (k : ℕ) (d : Document) (lt : k < length l) where
       let e : 0 + k ≡ k = omega arith in
       let last : f (0 + k) ≡ documentIn d = rw (e, getD-set-same l k d noDocument lt) refl in
       let front : valuesFrom f 0 k ≡ valuesFrom g 0 k =
-          values-same f g 0 k (λ n a b. let ne : n ≡ k → ⊥ = λ q. omega arith in rw (getD-set-other l k n d noDocument ne) refl) in
+      values-same f g 0 k (λ n a b. let ne : n ≡ k → ⊥ = λ q. omega arith in rw (getD-set-other l k n d noDocument ne) refl) in
       rw (add-one, values-snoc f 0 k, last, front) refl
 
 pub pushed : (t : Table) (d : Document) → Sound t → length (t .docs) ≡ documentLimit → t .count < documentLimit → d .depth ≤ documentLimit
@@ -132,10 +130,11 @@ pushed t d h long lt a =
 
 -- ---- a document goes, and all beneath it
 
-pub goes-test : (t : Table) (s i : ℕ) (d : Document) (b : Bool) → d ≡ getD (t .docs) i noDocument → IsBeneath d s b
-    → isAtOrBeneath s (docAt t i .identity) ≡ (eqb (d .serial) s || b)
+-- what the test of a document answers
+goes-is : (t : Table) (s i : ℕ) (d : Document) (b c : Bool) → d ≡ getD (t .docs) i noDocument → IsBeneath d s b → (eqb (d .serial) s || b) ≡ c
+    → isAtOrBeneath s (docAt t i .identity) ≡ c
 unfolding docAt
-goes-test t s i d b e h = rw (← e, at-or-beneath s (documentIn d .identity), document-serial d, ← h .is) refl
+goes-is t s i d b c e h q = rw (← e, at-or-beneath s (documentIn d .identity), document-serial d, ← h .is) q
 
 -- the first i documents of t looked at, the k that stay of them are the first of u
 pub record Sweeping (t u : Table) (s i k : ℕ) : Type 0 where
@@ -158,8 +157,9 @@ sweep t s h =
     }
 
 module _ (t u : Table) (s i k : ℕ) (w : Sweeping t u s i k) where
-  pub sweep-goes : isAtOrBeneath s (docAt t i .identity) ≡ true → Sweeping t u s (i + 1) k
-  sweep-goes e =
+  pub sweep-goes : (d : Document) (b : Bool) → d ≡ getD (t .docs) i noDocument → IsBeneath d s b → (eqb (d .serial) s || b) ≡ true → Sweeping t u s (i + 1) k
+  sweep-goes d b q h c =
+      let e = goes-is t s i d b true q h c in
       record {
         long = w .long;
         within = omega (arith, w .within);
@@ -169,10 +169,11 @@ module _ (t u : Table) (s i k : ℕ) (w : Sweeping t u s i k) where
         deep = w .deep;
       }
 
-  pub sweep-stays : (d : Document) → d ≡ getD (t .docs) i noDocument → d .depth ≤ documentLimit → k < documentLimit → isAtOrBeneath s (docAt t i .identity) ≡ false
+  pub sweep-stays : (d : Document) (b : Bool) → d ≡ getD (t .docs) i noDocument → IsBeneath d s b → (eqb (d .serial) s || b) ≡ false → d .depth ≤ documentLimit → k < documentLimit
       → Sweeping t (record { docs = set (u .docs) k d; count = u .count; next = u .next }) s (i + 1) (k + 1)
   unfolding docAt
-  sweep-stays d q a lt e =
+  sweep-stays d b q h c a lt =
+      let e = goes-is t s i d b false q h c in
       let in-u : k < length (u .docs) = omega (arith, w .long) in
       record {
         long = rw length-set (w .long);
@@ -201,19 +202,20 @@ pub record Listing (t : Table) (s : ℕ) (l : List ℕ) (i k : ℕ) : Type 0 whe
   pub within : k ≤ i
   pub front : take k l ≡ serialsBeneath s (valuesFrom (docAt t) 0 i)
 
-pub beneath-test : (t : Table) (s i : ℕ) (d : Document) (b : Bool) → d ≡ getD (t .docs) i noDocument → IsBeneath d s b
-    → elem s (docAt t i .identity .above) ≡ b
+beneath-is : (t : Table) (s i : ℕ) (d : Document) (b c : Bool) → d ≡ getD (t .docs) i noDocument → IsBeneath d s b → b ≡ c
+    → elem s (docAt t i .identity .above) ≡ c
 unfolding docAt
-beneath-test t s i d b e h = rw (← e) (sym (h .is))
+beneath-is t s i d b c e h q = rw (← e) (sym (h .is) ∙ q)
 
 pub list-none : (t : Table) (s : ℕ) (l : List ℕ) → length l ≡ documentLimit → Listing t s l 0 0
 list-none t s l h = record { long = h; within = omega arith; front = rw (serials-none (docAt t) s) refl }
 
 module _ (t : Table) (s : ℕ) (l : List ℕ) (i k : ℕ) (w : Listing t s l i k) where
-  pub list-more : (d : Document) → d ≡ getD (t .docs) i noDocument → k < documentLimit → elem s (docAt t i .identity .above) ≡ true
+  pub list-more : (d : Document) (b : Bool) → d ≡ getD (t .docs) i noDocument → IsBeneath d s b → b ≡ true → k < documentLimit
       → Listing t s (set l k (d .serial)) (i + 1) (k + 1)
   unfolding docAt
-  list-more d q lt e =
+  list-more d b q h c lt =
+      let e = beneath-is t s i d b true q h c in
       let in-l : k < length l = omega (arith, w .long) in
       record {
         long = rw length-set (w .long);
@@ -221,8 +223,9 @@ module _ (t : Table) (s : ℕ) (l : List ℕ) (i k : ℕ) (w : Listing t s l i k
         front = rw (serials-more (docAt t) s i e, ← q, document-serial d, add-one, take-suc-set l k (d .serial) in-l, w .front) refl;
       }
 
-  pub list-same : elem s (docAt t i .identity .above) ≡ false → Listing t s l (i + 1) k
-  list-same e =
+  pub list-same : (d : Document) (b : Bool) → d ≡ getD (t .docs) i noDocument → IsBeneath d s b → b ≡ false → Listing t s l (i + 1) k
+  list-same d b q h c =
+      let e = beneath-is t s i d b false q h c in
       record { long = w .long; within = omega (arith, w .within); front = rw (serials-same (docAt t) s i e) (w .front) }
 
   pub are-serials : i ≡ t .count → t .count ≤ documentLimit → AreSerials t s (record { list = l; count = k })

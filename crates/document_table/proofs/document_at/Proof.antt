@@ -15,7 +15,7 @@ document-at-spec =
     (λ c. search needs)
     (λ c. search needs)
     (λ c.
-      let t = c .before .args .t1 in
-      let lt : c .before .args .i < length (t .docs) = omega (arith, long t _ (c .before .good .0)) in
-      let e = any-default (t .docs) (c .before .args .i) _ noDocument lt in
-      (e, rw e (c .before .pre .0 .deep (c .before .args .i) (c .before .pre .1)))))
+    let t = c .before .args .t1 in
+    let lt : c .before .args .i < length (t .docs) = omega (arith, long t _ (c .before .good .0)) in
+    let e = any-default (t .docs) (c .before .args .i) _ noDocument lt in
+    (e, rw e (c .before .pre .0 .deep (c .before .args .i) (c .before .pre .1)))))

@@ -23,15 +23,15 @@ find-spec =
     (λ c. search needs)
     (λ c. search needs)
     (λ c.
-      let h = c .before .before in
-      let t = h .before .args .t1 in
-      let lt : h .loop .i < length (t .docs) = omega (arith, long t _ (h .before .good .0)) in
-      is-found t (h .before .args .serial) (h .loop .i) _ lt (h .loop .inv .1) (omega arith) (c .if1 .taken))
+    let h = c .before .before in
+    let t = h .before .args .t1 in
+    let lt : h .loop .i < length (t .docs) = omega (arith, long t _ (h .before .good .0)) in
+    is-found t (h .before .args .serial) (h .loop .i) _ lt (h .loop .inv .1) (omega arith) (c .if1 .taken))
     (λ c. search needs)
     (λ c. search needs)
     (λ c.
-      let h = c .before .before in
-      let t = h .before .args .t1 in
-      let lt : h .loop .i < length (t .docs) = omega (arith, long t _ (h .before .good .0)) in
-      (search needs, seek-on t (h .before .args .serial) (h .loop .i) _ lt (h .loop .inv .1) (omega arith) (c .if1 .left)))
+    let h = c .before .before in
+    let t = h .before .args .t1 in
+    let lt : h .loop .i < length (t .docs) = omega (arith, long t _ (h .before .good .0)) in
+    (search needs, seek-on t (h .before .args .serial) (h .loop .i) _ lt (h .loop .inv .1) (omega arith) (c .if1 .left)))
     (λ c. is-none (c .before .before .args .t1) (c .before .before .args .serial) (c .before .loop .i) (c .before .loop .inv .1) (omega arith)))

@@ -26,15 +26,15 @@ is-beneath-spec =
     (λ c. search needs)
     (λ c. search needs)
     (λ c.
-      let h = c .before .before .before in
-      let d = h .before .args .t1 in
-      let long = above-long d _ (h .before .good .0) in
-      beneath-true d (h .before .args .serial) (h .loop .i) _ (omega arith) (omega arith) (c .if1 .taken) (h .loop .inv .1))
+    let h = c .before .before .before in
+    let d = h .before .args .t1 in
+    let long = above-long d _ (h .before .good .0) in
+    beneath-true d (h .before .args .serial) (h .loop .i) _ (omega arith) (omega arith) (c .if1 .taken) (h .loop .inv .1))
     (λ c. search needs)
     (λ c. search needs)
     (λ c.
-      let h = c .before .before .before in
-      let d = h .before .args .t1 in
-      let long = above-long d _ (h .before .good .0) in
-      (search needs, h .loop .inv .1 ∙ elem-on (d .above) (d .depth) (h .loop .i) (h .before .args .serial) _ (omega arith) (omega arith) (c .if1 .left)))
+    let h = c .before .before .before in
+    let d = h .before .args .t1 in
+    let long = above-long d _ (h .before .good .0) in
+    (search needs, h .loop .inv .1 ∙ elem-on (d .above) (d .depth) (h .loop .i) (h .before .args .serial) _ (omega arith) (omega arith) (c .if1 .left)))
     (λ c. beneath-false (c .before .before .args .t1) (c .before .before .args .serial) (c .before .loop .i) (omega arith) (c .before .loop .inv .1)))

@@ -1,8 +1,8 @@
 -- `serials_beneath` is right: the serials among the first i documents that are beneath stand in the first k places.
-use mathlib.Core.Path.{_≡_, refl, _∙_}
+use mathlib.Core.Path.{refl}
 use Prim.Native.Nat.{_≤_, _-_}
 use native.Mathlib.Omega.{arith}
-use Rattle.document_table.proofs.Laws.{beneath-test, Listing, list-none, list-more, list-same, are-serials}
+use Rattle.document_table.proofs.Laws.{Listing, list-none, list-more, list-same, are-serials}
 use borrow.Author.Needs.{needs}
 use Rattle.document_table.proofs.serials_beneath.Statement.{statement}
 use Rattle.document_table.proofs.serials_beneath.Tie as tie
@@ -28,15 +28,15 @@ serials-beneath-spec =
     (λ c. search needs)
     (λ c. search needs)
     (λ c.
-      let h = c .before .before .before .before in
-      let r = c .before .before .document-at in
-      let e = beneath-test (h .before .args .t) (h .before .args .serial) (h .loop .i) (r .result) (c .before .is-beneath .result) (r .ensures .0) (c .before .is-beneath .ensures) in
-      (search needs, list-more (h .before .args .t) (h .before .args .serial) (h .loop .list) (h .loop .i) (h .loop .k) (h .loop .inv .1) (r .result) (r .ensures .0) (omega arith) (e ∙ c .if1 .taken)))
+    let h = c .before .before .before .before in
+    let r = c .before .before .document-at in
+    let b = c .before .is-beneath in
+    (search needs, list-more (h .before .args .t) (h .before .args .serial) (h .loop .list) (h .loop .i) (h .loop .k) (h .loop .inv .1) (r .result) (b .result) (r .ensures .0) (b .ensures) (c .if1 .taken) (omega arith)))
     (λ c. search needs)
     (λ c. search needs)
     (λ c.
-      let h = c .before .before .before .before in
-      let r = c .before .before .document-at in
-      let e = beneath-test (h .before .args .t) (h .before .args .serial) (h .loop .i) (r .result) (c .before .is-beneath .result) (r .ensures .0) (c .before .is-beneath .ensures) in
-      (search needs, list-same (h .before .args .t) (h .before .args .serial) (h .loop .list) (h .loop .i) (h .loop .k) (h .loop .inv .1) (e ∙ c .if1 .left)))
+    let h = c .before .before .before .before in
+    let r = c .before .before .document-at in
+    let b = c .before .is-beneath in
+    (search needs, list-same (h .before .args .t) (h .before .args .serial) (h .loop .list) (h .loop .i) (h .loop .k) (h .loop .inv .1) (r .result) (b .result) (r .ensures .0) (b .ensures) (c .if1 .left)))
     (λ c. are-serials (c .before .before .args .t) (c .before .before .args .serial) (c .before .loop .list) (c .before .loop .i) (c .before .loop .k) (c .before .loop .inv .1) (omega arith) (c .before .before .pre .count)))
