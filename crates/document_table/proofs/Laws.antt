@@ -8,7 +8,7 @@ use native.Mathlib.Omega.{arith}
 use lib.ListN.{length, set, take, drop, getD, length-map, length-set}
 use borrow.Author.Tests.{eqb-true, eqb-false}
 use lib.Dec.{eqb}
-use lib.Seq.{getD-set-same, getD-set-other, take-suc-set}
+use lib.Seq.{getD-set-same, getD-set-other, take-suc-set, length-take-le}
 use Rattle.limits.specs.Limits.{documentLimit}
 use mir.Val.{Val}
 use denote.Laws.{Is}
@@ -17,10 +17,11 @@ use Rattle.document_records.specs.declared.Document.{Document}
 use Rattle.document_records.specs.Records.{documentIn}
 use Rattle.document_records.proofs.Laws.{document-serial, document-above}
 use Rattle.document_model.specs.Model.{Document as ModelDocument, newTable, valuesFrom, find, elem, isAtOrBeneath, remaining, removedCount, serialsBeneath}
-use Rattle.document_model.proofs.Laws.{elem-here, elem-end, find-here, find-on, find-end, at-or-beneath, remaining-none, remaining-goes, remaining-stays, removed-none, removed-goes, removed-stays, serials-none, serials-more, serials-same, values-none, values-snoc, values-same}
+use Rattle.document_model.proofs.Laws.{elem-here, elem-end, find-here, find-on, find-end, at-or-beneath, remaining-none, remaining-goes, remaining-stays, removed-none, removed-goes, removed-stays, serials-none, serials-more, serials-same, values-length, values-none, values-snoc, values-same}
 use Rattle.document_table.specs.declared.Table.{Table}
 use Rattle.ascii.proofs.Clash.{clash}
 use Rattle.document_table.specs.declared.Found.the-variants as found
+use Rattle.document_table.specs.declared.Serials.{Serials}
 use Rattle.document_table.specs.Tables.{noDocument, docAt, docsIn, view, Sound, IsFound, IsBeneath, IsPushed, IsRemoved, AreSerials}
 use Rattle.document_table.proofs.Table as table-type
 use Rattle.document_records.proofs.Document as document-type
@@ -32,6 +33,11 @@ long t vs g = simp length-map at (g .1 .1 .0 .1 .0 .1)
 -- and a document passed: the serials above it have as many
 pub above-long : (d : Document) (vs : List Val) → Is (row document-type.the-type) d vs → length (d .above) ≡ 16
 above-long d vs g = simp length-map at (g .1 .1 .1 .0 .1 .0 .1)
+
+-- as many documents as the count says
+pub docs-length : (t : Table) → length (docsIn t) ≡ t .count
+unfolding docsIn
+docs-length t = values-length (docAt t) 0 (t .count)
 
 -- a place of an array has one element, whatever stands for a place past it
 pub any-default : {A : Type 0} (l : List A) (i : ℕ) (y z : A) → i < length l → getD l i y ≡ getD l i z
@@ -231,3 +237,9 @@ module _ (t : Table) (s : ℕ) (l : List ℕ) (i k : ℕ) (w : Listing t s l i k
   pub are-serials : i ≡ t .count → t .count ≤ documentLimit → AreSerials t s (record { list = l; count = k })
   unfolding docsIn
   are-serials e le = record { count = omega (arith, w .within); list = rw e at (w .front) }
+
+-- as many serials as the count says
+pub serials-length : (t : Table) (s : ℕ) (r : Serials) → AreSerials t s r → length (r .list) ≡ documentLimit → length (serialsBeneath s (docsIn t)) ≡ r .count
+serials-length t s r h e =
+    let le : r .count ≤ length (r .list) = omega (arith, h .count) in
+    rw (← h .list) (length-take-le (r .count) (r .list) le)
