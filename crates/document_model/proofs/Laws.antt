@@ -9,4 +9,6 @@ pub use Rattle.document_model.proofs.Invariant.{Invariant, reachable}
 -- the documents of the table are the loaded ones, and the serials above each are those that it is beneath
 pub use Rattle.document_model.proofs.Agreement.{Agrees, agrees}
 -- the first values of a function
-pub use Rattle.document_model.proofs.Values.{values-at, values-past, values-length, values-same, values-snoc}
+pub use Rattle.document_model.proofs.Values.{values-at, values-past, values-length, values-none, values-same, values-snoc}
+-- documents looked at one after the other: what is found, stays and is listed
+pub use Rattle.document_model.proofs.DocumentLists.{elem-here, elem-on, elem-end, find-here, find-on, find-end, at-or-beneath, remaining-none, remaining-goes, remaining-stays, removed-none, removed-goes, removed-stays, serials-none, serials-more, serials-same}

@@ -27,6 +27,10 @@ unfolding valuesFrom
 values-length f i zero = refl
 values-length f i (suc k) = ap suc (values-length f (suc i) k)
 
+pub values-none : {A : Type 0} (f : ℕ → A) (i : ℕ) → valuesFrom f i 0 ≡ []
+unfolding valuesFrom
+values-none f i = refl
+
 -- functions with the same values
 pub values-same : {A : Type 0} (f g : ℕ → A) (i k : ℕ) → ((n : ℕ) → i ≤ n → n < i + k → f n ≡ g n) → valuesFrom f i k ≡ valuesFrom g i k
 unfolding valuesFrom

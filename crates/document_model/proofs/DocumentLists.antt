@@ -1,0 +1,142 @@
+-- What is found, stays and is listed among documents that are looked at one after the other: a part of the laws of this crate. Assumes nothing.
+use mathlib.Core.Path.{_≡_, refl, sym, ap, _∙_}
+use Prim.Native.Nat.{ℕ, suc, _+_, _-_, _≤_, _<_}
+use native.Mathlib.Numerals.{add-one}
+use native.Mathlib.Omega.{arith}
+use mathlib.Core.Bool.{Bool, true, false, _||_}
+use mathlib.Core.List.{List, [], _∷_, _++_, append-nil}
+use mathlib.Core.Option.{some, none}
+use borrow.Author.Tests.{eq-eqb, ne-eqb, eqb-true, eqb-false}
+use lib.Dec.{eqb}
+use lib.ListN.{length, take, drop, getD, length-take, drop-of-length-le}
+use lib.Seq.{drop-cons, getD-take, length-take-le}
+use Rattle.ascii.specs.Bytes.{pick}
+use Rattle.document_model.specs.Model.{Identity, Document, valuesFrom, elem, find, isAtOrBeneath, remaining, removedCount, serialsBeneath}
+use Rattle.document_model.proofs.Values.{values-snoc}
+
+-- ---- a serial among the first n of a list, from place i on
+
+module _ (l : List ℕ) (n i s z : ℕ) (le : n ≤ length l) (lt : i < n) where
+  rest-cons : drop i (take n l) ≡ getD l i z ∷ drop (i + 1) (take n l)
+  rest-cons =
+      let h : i < length (take n l) = rw (length-take-le n l le) lt in
+      rw (drop-cons (take n l) i z h, getD-take n l i z lt, add-one) refl
+
+  pub elem-here : getD l i z ≡ s → elem s (drop i (take n l)) ≡ true
+  unfolding elem
+  elem-here e = rw (rest-cons, eq-eqb s (getD l i z) (sym e)) refl
+
+  pub elem-on : (getD l i z ≡ s → ⊥) → elem s (drop i (take n l)) ≡ elem s (drop (i + 1) (take n l))
+  unfolding elem
+  elem-on e = rw (rest-cons, ne-eqb s (getD l i z) (λ q. e (sym q))) refl
+
+pub elem-end : (l : List ℕ) (n i s : ℕ) → n ≤ i → elem s (drop i (take n l)) ≡ false
+unfolding elem
+elem-end l n i s le =
+    let h : length (take n l) ≤ i = rw (length-take n l) (omega arith) in
+    rw (drop-of-length-le (take n l) h) refl
+
+-- ---- the document of a serial among the first n, from place i on
+
+module _ (f : ℕ → Document) (n i s : ℕ) (lt : i < n) where
+  find-step : find s (valuesFrom f i (n - i)) ≡ pick (eqb s (f i .identity .serial)) (some (f i)) (find s (valuesFrom f (i + 1) (n - (i + 1))))
+  unfolding find valuesFrom
+  find-step =
+      let e : n - i ≡ suc (n - (i + 1)) = omega arith in
+      rw (e, add-one) refl
+
+  pub find-here : f i .identity .serial ≡ s → find s (valuesFrom f i (n - i)) ≡ some (f i)
+  unfolding pick
+  find-here e = rw (find-step, eq-eqb s (f i .identity .serial) (sym e)) refl
+
+  pub find-on : (f i .identity .serial ≡ s → ⊥) → find s (valuesFrom f i (n - i)) ≡ find s (valuesFrom f (i + 1) (n - (i + 1)))
+  unfolding pick
+  find-on e = rw (find-step, ne-eqb s (f i .identity .serial) (λ q. e (sym q))) refl
+
+pub find-end : (f : ℕ → Document) (n i s : ℕ) → n ≤ i → find s (valuesFrom f i (n - i)) ≡ none
+unfolding find valuesFrom
+find-end f n i s le = let e : n - i ≡ 0 = omega arith in rw e refl
+
+-- ---- the document has the serial, or is beneath the one that has it
+
+eqb-swap : (m n : ℕ) (b : Bool) → eqb m n ≡ b → eqb m n ≡ eqb n m
+eqb-swap m n true e = e ∙ sym (eq-eqb n m (sym (eqb-true m n e)))
+eqb-swap m n false e = e ∙ sym (ne-eqb n m (λ q. eqb-false m n e (sym q)))
+
+pub at-or-beneath : (s : ℕ) (i : Identity) → isAtOrBeneath s i ≡ (eqb (i .serial) s || elem s (i .above))
+unfolding isAtOrBeneath
+at-or-beneath s i = rw (eqb-swap s (i .serial) (eqb s (i .serial)) refl) refl
+
+-- ---- what stays, goes and is listed, with one document more at the end
+
+pick-append : {A : Type 0} (b : Bool) (x : A) (l m : List A) → pick b (l ++ m) (x ∷ (l ++ m)) ≡ pick b l (x ∷ l) ++ m
+unfolding pick
+pick-append true x l m = refl
+pick-append false x l m = refl
+
+pick-append′ : {A : Type 0} (b : Bool) (x : A) (l m : List A) → pick b (x ∷ (l ++ m)) (l ++ m) ≡ pick b (x ∷ l) l ++ m
+unfolding pick
+pick-append′ true x l m = refl
+pick-append′ false x l m = refl
+
+pick-add : (b : Bool) (m n : ℕ) → pick b (suc (m + n)) (m + n) ≡ pick b (suc m) m + n
+unfolding pick
+pick-add true m n = omega arith
+pick-add false m n = refl
+
+remaining-append : (s : ℕ) (ds es : List Document) → remaining s (ds ++ es) ≡ remaining s ds ++ remaining s es
+unfolding remaining
+remaining-append s [] es = refl
+remaining-append s (d ∷ ds) es = rw (remaining-append s ds es) (pick-append (isAtOrBeneath s (d .identity)) d (remaining s ds) (remaining s es))
+
+removed-append : (s : ℕ) (ds es : List Document) → removedCount s (ds ++ es) ≡ removedCount s ds + removedCount s es
+unfolding removedCount
+removed-append s [] es = omega arith
+removed-append s (d ∷ ds) es = rw (removed-append s ds es) (pick-add (isAtOrBeneath s (d .identity)) (removedCount s ds) (removedCount s es))
+
+serials-append : (s : ℕ) (ds es : List Document) → serialsBeneath s (ds ++ es) ≡ serialsBeneath s ds ++ serialsBeneath s es
+unfolding serialsBeneath
+serials-append s [] es = refl
+serials-append s (d ∷ ds) es = rw (serials-append s ds es) (pick-append′ (elem s (d .identity .above)) (d .identity .serial) (serialsBeneath s ds) (serialsBeneath s es))
+
+-- before the first
+module _ (f : ℕ → Document) (s : ℕ) where
+  pub remaining-none : remaining s (valuesFrom f 0 0) ≡ []
+  unfolding remaining valuesFrom
+  remaining-none = refl
+
+  pub removed-none : removedCount s (valuesFrom f 0 0) ≡ 0
+  unfolding removedCount valuesFrom
+  removed-none = refl
+
+  pub serials-none : serialsBeneath s (valuesFrom f 0 0) ≡ []
+  unfolding serialsBeneath valuesFrom
+  serials-none = refl
+
+module _ (f : ℕ → Document) (s i : ℕ) where
+  one-more : valuesFrom f 0 (i + 1) ≡ valuesFrom f 0 i ++ (f i ∷ [])
+  one-more = let e : 0 + i ≡ i = omega arith in rw add-one (values-snoc f 0 i ∙ ap (λ (n : ℕ). valuesFrom f 0 i ++ (f n ∷ [])) e)
+
+  pub remaining-goes : isAtOrBeneath s (f i .identity) ≡ true → remaining s (valuesFrom f 0 (i + 1)) ≡ remaining s (valuesFrom f 0 i)
+  unfolding remaining pick
+  remaining-goes e = rw (one-more, remaining-append, e) (append-nil (remaining s (valuesFrom f 0 i)))
+
+  pub remaining-stays : isAtOrBeneath s (f i .identity) ≡ false → remaining s (valuesFrom f 0 (i + 1)) ≡ remaining s (valuesFrom f 0 i) ++ (f i ∷ [])
+  unfolding remaining pick
+  remaining-stays e = rw (one-more, remaining-append, e) refl
+
+  pub removed-goes : isAtOrBeneath s (f i .identity) ≡ true → removedCount s (valuesFrom f 0 (i + 1)) ≡ removedCount s (valuesFrom f 0 i) + 1
+  unfolding removedCount pick
+  removed-goes e = rw (one-more, removed-append, e) refl
+
+  pub removed-stays : isAtOrBeneath s (f i .identity) ≡ false → removedCount s (valuesFrom f 0 (i + 1)) ≡ removedCount s (valuesFrom f 0 i)
+  unfolding removedCount pick
+  removed-stays e = rw (one-more, removed-append, e) (omega arith)
+
+  pub serials-more : elem s (f i .identity .above) ≡ true → serialsBeneath s (valuesFrom f 0 (i + 1)) ≡ serialsBeneath s (valuesFrom f 0 i) ++ (f i .identity .serial ∷ [])
+  unfolding serialsBeneath pick
+  serials-more e = rw (one-more, serials-append, e) refl
+
+  pub serials-same : elem s (f i .identity .above) ≡ false → serialsBeneath s (valuesFrom f 0 (i + 1)) ≡ serialsBeneath s (valuesFrom f 0 i)
+  unfolding serialsBeneath pick
+  serials-same e = rw (one-more, serials-append, e) (append-nil (serialsBeneath s (valuesFrom f 0 i)))
