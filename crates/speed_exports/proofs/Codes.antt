@@ -53,4 +53,4 @@ whole-part : (h : List ℕ) → partOf h 0 (length h) ≡ h
 whole-part h = let z : length h - 0 ≡ length h = omega arith in sym (part-in h 0 (length h) (omega arith) (omega arith)) ∙ (rw z (take-length h))
 
 pub admits-code : (d : List ℕ) (n asked : ℕ) (h : List ℕ) (s : Scheme) (a : Admission) (r : ℕ) → s ≡ askedScheme asked → a ≡ admissionAs (someAdmits (declaredIn d n) (isOwn asked) false (originIn h (range.Tuple (record { scheme = s; from = 0; to = length h; port = asked / 65536 })))) → r ≡ admissionCode a → r ≡ admissionCode (admissionAs (someAdmits (declaredIn d n) (isOwn asked) false (tuple (askedOrigin asked h))))
-admits-code d n asked h s a r e f g = g ∙ ap admissionCode (f ∙ rw (whole-part h, e))
+admits-code d n asked h s a r e f g = rw (g, f, whole-part h, e)
