@@ -1,13 +1,14 @@
 // The examples of RFC 8941's grammar and document 01's header rows, read by the library: one line for each.
+use allowlists::Admission;
 use ascii::TextRange;
-use declarations::Admission;
-use declarations::Setting;
 use dictionaries::ListItem;
 use dictionaries::MemberFound;
 use items::ItemKind;
 use items::ItemRange;
 use origins::OriginRange;
 use origins::OriginText;
+use settled::ListFound;
+use settling::Settled;
 
 fn put(s: &[u8]) {
     io::write_all(1, s);
@@ -186,46 +187,57 @@ fn looks_2() {
     show(b"a=1", b"");
 }
 
-// Whether camera's list admits an origin, for a document at https://a.example.
-fn ask(s: &[u8], d: Setting, text: &[u8], o: OriginRange) {
+// Whether the list that settled bytes say for camera, feature 0, admits an origin, for a document at https://a.example.
+fn ask(d: &[u8], text: &[u8], o: OriginRange) {
     let same = ascii::same(text, b"https://a.example");
-    match declarations::admits(s, d, same, text, o) {
+    match settled::admits(d, 0, same, text, o) {
         Admission::Admitted => put(b"yes"),
         Admission::NotAdmitted => put(b"no"),
-        Admission::Undeclared => put(b"undeclared"),
+        Admission::NoList => put(b"undeclared"),
     }
 }
 
-fn ask_text(s: &[u8], d: Setting, text: &[u8]) {
+fn ask_text(d: &[u8], text: &[u8]) {
     match origins::origin_text(text) {
-        OriginText::Tuple(o) => ask(s, d, text, OriginRange::Tuple(o)),
-        OriginText::Null => ask(s, d, text, OriginRange::Fresh),
+        OriginText::Tuple(o) => ask(d, text, OriginRange::Tuple(o)),
+        OriginText::Null => ask(d, text, OriginRange::Fresh),
         OriginText::Empty => put(b"empty"),
         OriginText::NotAnOrigin => put(b"no origin"),
     }
 }
 
-// What a header declares for camera, feature 0.
-fn camera(s: &[u8]) {
-    put(b"camera of ");
-    put(s);
-    let k = declarations::settle(s);
-    if k.malformed {
+fn ask_all(d: &[u8]) {
+    put(b": own ");
+    ask_text(d, b"https://a.example");
+    put(b", other ");
+    ask_text(d, b"https://b.example");
+    put(b", opaque ");
+    ask_text(d, b"null");
+    put(b"\n");
+}
+
+fn show_camera(d: &[u8], malformed: bool) {
+    if malformed {
         put(b": malformed\n");
         return;
     }
-    let d = k.features[0];
-    if !d.declared {
-        put(b": undeclared\n");
-        return;
+    match settled::list_of(d, 0) {
+        ListFound::Undeclared => put(b": undeclared\n"),
+        ListFound::All => ask_all(d),
+        ListFound::Listed(_) => ask_all(d),
     }
-    put(b": own ");
-    ask_text(s, d, b"https://a.example");
-    put(b", other ");
-    ask_text(s, d, b"https://b.example");
-    put(b", opaque ");
-    ask_text(s, d, b"null");
-    put(b"\n");
+}
+
+// What a header declares for camera, once it is settled.
+fn camera(s: &[u8]) {
+    put(b"camera of ");
+    put(s);
+    let mut d = [0u8; 200];
+    match settling::settle(s, &mut d) {
+        Settled::Header(f) => show_camera(&d, f.malformed),
+        Settled::TooLong => put(b": too long\n"),
+        Settled::Small => put(b": no room\n"),
+    }
 }
 
 // Document 01's rows about headers, and its slips.
