@@ -1,0 +1,190 @@
+// The calls on the table of loaded documents.
+ghost use mathlib.Core.Path.{_≡_};
+ghost use Rattle.document_model.specs.Model.{newTable, answerTo, unload, question, enabledFeatures, listing, stored};
+ghost use Prim.Native.Nat.{_≤_};
+ghost use lib.ListN.{length, take};
+ghost use Rattle.limits.specs.Limits.{documentLimit};
+ghost use Rattle.document_table.specs.Tables.{view};
+ghost use Rattle.documents.specs.Answers.{Valid, questionIn, featuresIn, decisionAnswer, isBad, Asks, Unloads, Lists};
+use decisions::Decision;
+use document_records::Document;
+use document_table::Found;
+use document_table::Table;
+use limits::Refusal;
+use origins::OriginRange;
+use origins::OriginText;
+
+// Enabled, Disabled and a refusal are three different answers.
+pub enum QuestionAnswer {
+    Enabled,
+    Disabled,
+    Refused(Refusal),
+}
+
+// A number with bit n for feature n, or a refusal.
+pub enum FeaturesAnswer {
+    Features(u32),
+    Refused(Refusal),
+}
+
+// An accepted load: its serial, and whether its header was malformed.
+pub struct LoadedDocument {
+    pub serial: u32,
+    pub malformed: bool,
+}
+
+pub enum LoadAnswer {
+    Loaded(LoadedDocument),
+    Refused(Refusal),
+}
+
+// How many documents went, or a refusal.
+pub enum UnloadAnswer {
+    Removed(usize),
+    Refused(Refusal),
+}
+
+// How many serials were written, or a refusal.
+pub enum ListingAnswer {
+    Count(usize),
+    Refused(Refusal),
+}
+
+// A call that changes the table: its answer, and the table afterwards.
+pub struct Loading {
+    pub answer: LoadAnswer,
+    pub table: Table,
+}
+
+pub struct Unloading {
+    pub answer: UnloadAnswer,
+    pub table: Table,
+}
+
+// A new table is empty.
+pub fn new_table() -> Table
+    ensures { λ r. ⌜ Valid r × (view r ≡ newTable) ⌝ }
+{
+    document_table::new_table()
+}
+
+// The answer of a decision.
+fn decided(d: Decision) -> QuestionAnswer
+    ensures { λ r. ⌜ questionIn r ≡ decisionAnswer d ⌝ }
+{
+    match d {
+        Decision::Enabled => QuestionAnswer::Enabled,
+        Decision::Disabled => QuestionAnswer::Disabled,
+    }
+}
+
+// The question of a feature to a document, by what the origin text says.
+fn asked(d: Document, feature: u32, text: &[u8], said: OriginText) -> Decision
+    ensures { λ r. ⌜ Asks d feature (now (text .entry)) said r ⌝ }
+{
+    match said {
+        OriginText::Empty => document_records::own_question(d, feature),
+        OriginText::Null => document_records::question(d, feature, text, OriginRange::Fresh),
+        OriginText::Tuple(r) => document_records::question(d, feature, text, OriginRange::Tuple(r)),
+        OriginText::NotAnOrigin => document_records::question(d, feature, text, OriginRange::Fresh),
+    }
+}
+
+// Whether an origin text is none.
+fn is_bad(said: OriginText) -> bool
+    ensures { λ r. ⌜ r ≡ isBad said ⌝ }
+{
+    match said {
+        OriginText::Empty => false,
+        OriginText::Null => false,
+        OriginText::Tuple(_) => false,
+        OriginText::NotAnOrigin => true,
+    }
+}
+
+// The question of a feature to a document at an origin.
+pub fn question(t: Table, serial: u32, feature: u32, origin: &[u8]) -> QuestionAnswer
+    requires { ⌜ Valid t ⌝ }
+    ensures { λ r. ⌜ questionIn r ≡ answerTo (question serial feature (now (origin .entry))) (view t) ⌝ }
+{
+    let said = origins::origin_text(origin);
+    if is_bad(said) {
+        return QuestionAnswer::Refused(Refusal::BadOrigin);
+    }
+    if features::COUNT as u32 <= feature {
+        return QuestionAnswer::Refused(Refusal::NoSuchFeature);
+    }
+    match document_table::find(t, serial) {
+        Found::At(i) => {
+            let d = document_table::document_at(t, i);
+            decided(asked(d, feature, origin, said))
+        }
+        Found::None => QuestionAnswer::Refused(Refusal::NotLoaded),
+    }
+}
+
+// The features enabled at a document's own origin.
+pub fn enabled_features(t: Table, serial: u32) -> FeaturesAnswer
+    requires { ⌜ Valid t ⌝ }
+    ensures { λ r. ⌜ featuresIn r ≡ answerTo (enabledFeatures serial) (view t) ⌝ }
+{
+    match document_table::find(t, serial) {
+        Found::At(i) => {
+            let d = document_table::document_at(t, i);
+            FeaturesAnswer::Features(document_records::enabled(d))
+        }
+        Found::None => FeaturesAnswer::Refused(Refusal::NotLoaded),
+    }
+}
+
+// A document goes, and all beneath it.
+pub fn unload(t: Table, serial: u32) -> Unloading
+    requires { ⌜ Valid t ⌝ }
+    ensures { λ r. ⌜ Unloads (unload serial) t r ⌝ }
+{
+    match document_table::find(t, serial) {
+        Found::At(_) => {
+            let u = document_table::remove(t, serial);
+            Unloading {
+                answer: UnloadAnswer::Removed(t.count - u.count),
+                table: u,
+            }
+        }
+        Found::None => Unloading {
+            answer: UnloadAnswer::Refused(Refusal::NotLoaded),
+            table: t,
+        },
+    }
+}
+
+// The serials beneath a document, ascending, written into a lent run.
+pub fn list_beneath(t: Table, serial: u32, run: &mut [u32]) -> ListingAnswer
+    requires { ⌜ Valid t ⌝ }
+    ensures { λ r. ⌜ Lists (listing serial (now (run .entry))) t (now (run .entry)) (now (run .exit)) r ⌝ }
+{
+    match document_table::find(t, serial) {
+        Found::At(_) => {
+            let s = document_table::serials_beneath(t, serial);
+            let n = s.count;
+            if run.len() < n {
+                return ListingAnswer::Refused(Refusal::Small);
+            }
+            let list = s.list;
+            store(run, list, n);
+            ListingAnswer::Count(n)
+        }
+        Found::None => ListingAnswer::Refused(Refusal::NotLoaded),
+    }
+}
+
+// Writes the first `n` of some serials into a run.
+fn store(run: &mut [u32], list: [u32; limits::DOCUMENTS], n: usize)
+    requires { ⌜ (n ≤ documentLimit) × (n ≤ length (now run)) ⌝ }
+    ensures { λ r. ⌜ now (run .exit) ≡ stored (take n list) (now (run .entry)) ⌝ }
+{
+    let mut i: usize = 0;
+    while i < n {
+        run[i] = list[i];
+        i += 1;
+    }
+}
