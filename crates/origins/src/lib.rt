@@ -4,7 +4,7 @@ ghost use mathlib.Core.List.{_∷_};
 ghost use Prim.Native.Nat.{_≤_, _<_, _-_, _+_};
 ghost use lib.ListN.{length};
 ghost use mathlib.Core.Option.{some};
-ghost use Rattle.ascii.specs.Texts.{every, lowered, each, sameBytes, sameLowered};
+ghost use Rattle.ascii.specs.Texts.{every, lowered, each, sameBytes};
 ghost use Rattle.origins.specs.Hosts.{labels, isLabel, isHost, isOriginHost};
 ghost use Rattle.origins.specs.Ports.{defaultPort, leadsZero, originPort, portPartOf};
 ghost use Rattle.origins.specs.Origins.{schemeSlashes, pastScheme, startsWith, originOf, tupleOf};

@@ -3,22 +3,20 @@ use mathlib.Core.Path.{_≡_, refl, ap, _∙_, sym}
 use Prim.Native.Nat.{ℕ, zero, suc, _+_, _-_, _*_, _/_, _%_, _≤_, _<_, min}
 use mathlib.Core.List.{List, [], _∷_}
 use mathlib.Core.Bool.{Bool, true, false, _&&_, _||_}
-use mathlib.Core.Option.{Option, some, none}
+use mathlib.Core.Option.{some}
 use native.Mathlib.Omega.{arith}
-use native.Mathlib.Numerals.{add-one}
 use lib.ListN.{length, getD, take, drop, length-drop, drop-of-length-le, List·getD-eq-default}
 use lib.Seq.{drop-cons, drop-drop, take-all}
-use lib.Dec.{eqb, ltb, leb}
+use lib.Dec.{eqb, leb}
 use borrow.Author.Tests.{eq-eqb, ne-eqb, le-ltb, lt-ltb, leb-true, leb-false}
 use Rattle.ascii.specs.Bytes.{pick}
 use Rattle.ascii.specs.Reading.{headOf}
 use Rattle.ascii.specs.Texts.{partOf}
-use Rattle.ascii.proofs.Clash.{clash}
 use Rattle.ascii.proofs.Reading.{head-in, head-out, place-drop}
 use Rattle.ascii.proofs.Texts.{part-in}
 use Rattle.features.specs.Features.{featureCount}
-use Rattle.origins.specs.Origins.{Origin, TupleOrigin}
-use Rattle.origins.specs.Origins.Origin.{tuple, opaque, fresh}
+use Rattle.origins.specs.Origins.{Origin}
+use Rattle.origins.specs.Origins.Origin.{tuple}
 use Rattle.origins.specs.Expressions.{SourceExpression}
 use Rattle.origins.specs.Matching.{admits, admitsTuple}
 use Rattle.origins.specs.Answers.{expressionBy, tupleBy, originIn}
@@ -34,13 +32,13 @@ use Rattle.origins.specs.declared.TupleRange.{TupleRange}
 use Rattle.origins.specs.declared.OriginRange.{OriginRange}
 use Rattle.origins.specs.declared.OriginRange.the-variants as range
 use Rattle.origins.proofs.Laws.{admits-tuple}
-use Rattle.allowlists.specs.Allowlists.{Allowlist, allowlist, anyAdmits, listAdmits, someAdmits}
+use Rattle.allowlists.specs.Allowlists.{anyAdmits, someAdmits}
 use Rattle.allowlists.specs.Allowlists.Allowlist.{all, listed}
 use Rattle.allowlists.specs.Answers.{admissionAs}
 use Rattle.allowlists.specs.declared.Admission.{Admission}
 use Rattle.allowlists.specs.declared.Admission.the-variants as admission
 use Rattle.allowlists.proofs.Laws.{any-nil, any-cons, some-admits, none-admits, all-admits, listed-admits, list-star, list-parts, sources-fresh, sources-opaque}
-use Rattle.settled.specs.Settled.{entryBytes, headBytes, word, wordAt, schemeBits, hostBits, portBits, partsOf, expressionsFrom, Entry, entryIn, marked, entryDeclares, declaredIn}
+use Rattle.settled.specs.Settled.{entryBytes, headBytes, word, wordAt, schemeBits, hostBits, portBits, partsOf, expressionsFrom, entryIn, marked, entryDeclares, declaredIn}
 use Rattle.settled.specs.Answers.{settledIn, restFrom, expressionAt, lowNext, highNext, listIn, listBy, listAt, IsList}
 use Rattle.settled.specs.declared.SettledExpression.{SettledExpression}
 use Rattle.settled.specs.declared.ExpressionFound.{ExpressionFound}

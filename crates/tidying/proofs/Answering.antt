@@ -1,7 +1,7 @@
 -- The answer of tidying, test by test. Assumes nothing.
 use mathlib.Core.Path.{_≡_, refl, ap, _∙_, sym}
 use Prim.Native.Nat.{ℕ, zero, suc, _+_, _≤_, _<_}
-use mathlib.Core.List.{List, [], _++_}
+use mathlib.Core.List.{List, []}
 use mathlib.Core.Bool.{Bool, true, false}
 use mathlib.Core.Option.{Option}
 use native.Mathlib.Omega.{arith}
@@ -22,7 +22,7 @@ use Rattle.settling.specs.Promises.{Answer, IsSettledIn, IsSettled}
 use Rattle.settling.specs.declared.SettledHeader.{SettledHeader}
 use Rattle.settling.specs.declared.Settled.{Settled}
 use Rattle.settling.specs.declared.Settled.the-variants as settled
-use Rattle.tidying.specs.Tidied.{tidyFrom, tidyMembers, withMember, tidied}
+use Rattle.tidying.specs.Tidied.{tidyFrom, tidyMembers, tidied}
 use Rattle.tidying.specs.Writing.{Holds, Adding}
 use Rattle.tidying.specs.Answers.{tidyAnswer, runAfter, IsTidied}
 use Rattle.tidying.specs.Steps.{IsPut}

@@ -1,15 +1,15 @@
 -- A text that grows in a buffer of the limit's size. Assumes nothing.
-use mathlib.Core.Path.{_≡_, refl, ap, _∙_, sym}
+use mathlib.Core.Path.{_≡_, refl, ap, _∙_}
 use Prim.Native.Nat.{ℕ, _+_, _-_, _≤_, _<_}
-use mathlib.Core.List.{List, [], _∷_, _++_, append-assoc, append-nil}
+use mathlib.Core.List.{List, [], _++_, append-assoc, append-nil}
 use mathlib.Core.Bool.{Bool, true, false}
 use native.Mathlib.Omega.{arith}
 use borrow.Author.Needs.{needs}
 use lib.ListN.{length, length-append}
 use Rattle.limits.specs.Limits.{textBytes}
 use Rattle.ascii.specs.Bytes.{pick}
-use Rattle.tidying.specs.Writing.{Holds, Adding}
-use Rattle.tidying.specs.Steps.{puts, IsPut}
+use Rattle.tidying.specs.Writing.{Adding}
+use Rattle.tidying.specs.Steps.{IsPut}
 use Rattle.tidying.proofs.Copies.{puts-take}
 
 -- a text that is too long stays so

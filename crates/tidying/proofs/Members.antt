@@ -1,8 +1,9 @@
 -- The members of a tidied header, as the code adds them. Assumes nothing.
 use mathlib.Core.Path.{_≡_, refl, ap, _∙_, sym}
 use Prim.Native.Nat.{ℕ, suc, _+_, _-_, _≤_, _<_}
-use mathlib.Core.List.{List, [], _∷_, _++_, map, append-assoc, append-nil}
-use mathlib.Core.Bool.{Bool, true, false}
+use mathlib.Core.List.{List, [], _++_, map, map-append, append-assoc, append-nil}
+use mathlib.Core.Bool.{Bool, true, false, not}
+use borrow.Author.Tests.{not-true, not-false}
 use mathlib.Core.Option.{Option, some, none}
 use native.Mathlib.Omega.{arith}
 use native.Mathlib.Numerals.{add-one}
@@ -14,10 +15,9 @@ use Rattle.features.specs.Answers.{IsName}
 use Rattle.features.specs.declared.Name.{Name}
 use Rattle.origins.specs.Expressions.{SourceExpression}
 use Rattle.origins.specs.NormalForms.{normal}
-use Rattle.items.specs.Items.{Item}
 use Rattle.dictionaries.specs.Dictionaries.{Plain}
-use Rattle.dictionaries.specs.Written.{joinedBy, itemText, valueText, memberText, written}
-use Rattle.dictionaries.proofs.Written.{joined-first, token-text, item-text, list-text, member-text, members-text}
+use Rattle.dictionaries.specs.Written.{itemText, valueText, memberText, written}
+use Rattle.dictionaries.proofs.Written.{token-text, item-text, list-text, member-text, members-text}
 use Rattle.allowlists.specs.Allowlists.{Allowlist}
 use Rattle.allowlists.specs.Allowlists.Allowlist.{all, listed}
 use Rattle.settled.specs.Settled.{expressionsFrom, declaredIn}
@@ -30,28 +30,31 @@ use Rattle.tidying.specs.Writing.{Adding}
 use Rattle.tidying.specs.Steps.{following, Spelling, sourceTexts}
 use Rattle.tidying.specs.declared.Added.{Added}
 use Rattle.tidying.proofs.Growing.{adding-on}
-use Rattle.tidying.proofs.Spellings.{spelling-none, spelling-whole, spelling-on}
+use Rattle.tidying.proofs.Spellings.{spelling-none, spelling-one, spelling-whole, spelling-on}
 
--- `self` first, and then the others
-self-first : (own : Bool) (xs : List Item) → joinedBy (text " ") (map itemText (selfItem own ++ xs)) ≡ pick own (text "self") [] ++ following own (text " ") (map itemText xs)
-unfolding selfItem pick following
-self-first true xs = simp (joined-first, token-text)
-self-first false xs = refl
+-- `self`, where a list has it
+module _ (own : Bool) (l : List ℕ) (at : ℕ) (any : Bool) where
+  pub self-none : not own ≡ true → Spelling (text " ") l at any (map itemText (selfItem own)) l (record { to = at; any = any })
+  unfolding selfItem
+  self-none k = rw (not-true own k) (spelling-none (text " ") l at any)
 
-value-is : (own : Bool) (es : List SourceExpression) → valueText (tidyValue (listed own false es)) ≡ text "(" ++ ((pick own (text "self") [] ++ following own (text " ") (sourceTexts es)) ++ text ")")
-unfolding tidyValue sourceTexts
-value-is own es =
-    rw list-text
-    (ap (λ (t : List ℕ). text "(" ++ (t ++ text ")")) (self-first own (map sourceItem (onceAfter [] (map normal es)))))
+  pub self-some : not own ≡ false → (m z : List ℕ) (a r : ℕ) → Adding l at (pick any (text " ") []) m a → Adding m a (text "self") z r → Spelling (text " ") l at any (map itemText (selfItem own)) z (record { to = r; any = true })
+  unfolding selfItem
+  self-some k m z a r u v = rw (not-false own k, token-text) (spelling-one (text " ") l at any m z (text "self") a r u v)
 
 -- an allowlist without `*`
-pub value-list : (own : Bool) (es : List SourceExpression) (l m n o z : List ℕ) (at a b r : ℕ) (x : Added) → Adding l at (text "(") m a → Adding m a (pick own (text "self") []) n b → Spelling (text " ") n b own (sourceTexts es) o x → Adding o (x .to) (text ")") z r → Adding l at (valueText (tidyValue (listed own false es))) z r
-value-list own es l m n o z at a b r x u v w y =
-    let first = pick own (text "self") [] in
-    let others = following own (text " ") (sourceTexts es) in
+value-is : (own : Bool) (es : List SourceExpression) → valueText (tidyValue (listed own false es)) ≡ text "(" ++ (following false (text " ") (map itemText (selfItem own) ++ sourceTexts es) ++ text ")")
+unfolding tidyValue sourceTexts following
+value-is own es =
+    rw (list-text, map-append itemText (selfItem own) (map sourceItem (onceAfter [] (map normal es))))
+
+pub value-list : (own : Bool) (es : List SourceExpression) (l m n o z : List ℕ) (at a r : ℕ) (x y : Added) → Adding l at (text "(") m a → Spelling (text " ") m a false (map itemText (selfItem own)) n x → Spelling (text " ") n (x .to) (x .any) (sourceTexts es) o y → Adding o (y .to) (text ")") z r → Adding l at (valueText (tidyValue (listed own false es))) z r
+value-list own es l m n o z at a r x y u v w q =
+    let items = map itemText (selfItem own) ++ sourceTexts es in
+    let all-items : Spelling (text " ") m a false items o y = spelling-on (text " ") m a false n o x y (map itemText (selfItem own)) (sourceTexts es) v w in
     rw (value-is own es)
-    (adding-on l m z at a r (text "(") ((first ++ others) ++ text ")") u
-    (adding-on m o z a (x .to) r (first ++ others) (text ")") (adding-on m n o a b (x .to) first others v (w .text)) y))
+    (adding-on l m z at a r (text "(") (following false (text " ") items ++ text ")") u
+    (adding-on m o z a (y .to) r (following false (text " ") items) (text ")") (all-items .text) q))
 
 -- a separator, a name and `=`
 pub key-parts : (n : ℕ) (name : Name) (sep : List ℕ) (l o m z : List ℕ) (at b a r : ℕ) → IsName n name → Adding l at sep o b → Adding o b (take (name .len) (name .bytes)) m a → Adding m a (text "=") z r → Adding l at (sep ++ (nameOf n ++ text "=")) z r

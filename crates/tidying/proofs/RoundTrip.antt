@@ -2,10 +2,9 @@
 use mathlib.Core.Path.{_≡_, refl, ap, _∙_, sym}
 use Prim.Native.Nat.{ℕ, zero, suc, _+_, _≤_, _<_}
 use mathlib.Core.List.{List, [], _∷_, _++_, map}
-use mathlib.Core.Bool.{Bool, true, false, not, _&&_, _||_}
+use mathlib.Core.Bool.{Bool, true, false, _||_}
 use mathlib.Core.Option.{Option, some, none}
 use native.Mathlib.Omega.{arith}
-use native.Mathlib.Nat.{add-zero, add-suc, suc-add, zero-add}
 use lib.ListN.{length, drop}
 use lib.Dec.{ltb, eqb}
 use borrow.Author.Tests.{le-ltb, ltb-false, eqb-true, eqb-false}
@@ -13,7 +12,7 @@ use Rattle.ascii.proofs.Clash.{clash}
 use Rattle.limits.specs.Limits.{textBytes}
 use Rattle.ascii.specs.Bytes.{pick}
 use Rattle.ascii.specs.Literals.{text}
-use Rattle.ascii.specs.Texts.{every, sameBytes}
+use Rattle.ascii.specs.Texts.{every}
 use Rattle.ascii.specs.Reading.{headOf, headIs}
 use Rattle.ascii.proofs.Texts.{same-bytes}
 use Rattle.features.specs.Features.{nameOf, featureCount}
@@ -21,14 +20,13 @@ use Rattle.features.proofs.Laws.{name-starts, name-bytes, other-name}
 use Rattle.origins.specs.Origins.{Origin}
 use Rattle.origins.specs.Expressions.{SourceExpression}
 use Rattle.origins.specs.Matching.{admits, sameOrigin}
-use Rattle.origins.specs.NormalForms.{GoodExpression, expressionText, normal, sameExpression}
-use Rattle.origins.proofs.Laws.{normal-good, normal-normal, normal-admits, same-expression-is, same-expression-self, expression-plain}
-use Rattle.items.specs.Items.{Item}
-use Rattle.items.specs.Items.Item.{token, string}
+use Rattle.origins.specs.NormalForms.{GoodExpression, normal, sameExpression}
+use Rattle.origins.proofs.Laws.{normal-good, normal-normal, normal-admits, same-expression-is, expression-plain}
+use Rattle.items.specs.Items.Item.{token}
 use Rattle.dictionaries.specs.Dictionaries.{Value, Plain, members}
-use Rattle.dictionaries.specs.Dictionaries.Value.{one, many}
+use Rattle.dictionaries.specs.Dictionaries.Value.{one}
 use Rattle.dictionaries.specs.Lookup.{into, later, lastValueIn}
-use Rattle.dictionaries.specs.Written.{All, GoodKey, GoodToken, GoodItem, GoodValue, GoodMember, AllGood, written}
+use Rattle.dictionaries.specs.Written.{All, GoodToken, GoodItem, GoodValue, GoodMember, AllGood, written}
 use Rattle.dictionaries.specs.Written.All.{empty, and}
 use Rattle.dictionaries.proofs.Laws.{last-fold, fold-nil, fold-same, fold-other}
 use Rattle.dictionaries.proofs.ReadBack.{written-back}

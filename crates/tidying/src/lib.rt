@@ -11,10 +11,10 @@ ghost use Rattle.features.specs.Features.{nameOf};
 ghost use Rattle.origins.specs.Origins.{schemeText, schemeSlashes};
 ghost use Rattle.origins.specs.Answers.{expressionBy};
 ghost use Rattle.origins.specs.NormalForms.{normal, normalForm, portPartText};
-ghost use Rattle.dictionaries.specs.Written.{valueText, memberText, written};
+ghost use Rattle.dictionaries.specs.Written.{itemText, valueText, memberText, written};
 ghost use Rattle.allowlists.specs.Allowlists.Allowlist.{listed};
 ghost use Rattle.settled.specs.Settled.{expressionsFrom, declaredIn};
-ghost use Rattle.tidying.specs.Tidied.{among, tidyValue, withMember, tidyMembers};
+ghost use Rattle.tidying.specs.Tidied.{among, selfItem, tidyValue, withMember, tidyMembers};
 ghost use Rattle.tidying.specs.Writing.{Adding};
 ghost use Rattle.tidying.specs.Answers.{IsTidied};
 ghost use Rattle.tidying.specs.Steps.{IsPut, Spelling, sourceText, sourceTexts, newText};
@@ -230,14 +230,16 @@ fn add_sources(d: &[u8], first: usize, count: usize, buf: &mut [u8], at: usize, 
 }
 
 // Adds `self` where a list has it.
-fn add_self(buf: &mut [u8], at: usize, own: bool) -> usize
+fn add_self(buf: &mut [u8], at: usize, any: bool, own: bool) -> Added
     requires { ⌜ length (now buf) ≡ textBytes ⌝ }
-    ensures { λ r. ⌜ Adding (now (buf .entry)) at (pick own (text "self") []) (now (buf .exit)) r ⌝ }
+    ensures { λ r. ⌜ Spelling (text " ") (now (buf .entry)) at any (map itemText (selfItem own)) (now (buf .exit)) r ⌝ }
 {
-    if own {
-        return add(buf, at, b"self");
+    if !own {
+        return Added { to: at, any };
     }
-    at
+    let a = add_separator(buf, at, any, b" ");
+    let to = add(buf, a, b"self");
+    Added { to, any: true }
 }
 
 // Adds an allowlist without `*`, an inner list.
@@ -245,10 +247,9 @@ fn add_list(d: &[u8], l: ListRange, buf: &mut [u8], at: usize) -> usize
     requires { ⌜ length (now buf) ≡ textBytes ⌝ }
     ensures { λ r. ⌜ Adding (now (buf .entry)) at (valueText (tidyValue (listed (l .own) false (expressionsFrom (l .count) (drop (l .at) (now (d .entry))))))) (now (buf .exit)) r ⌝ }
 {
-    let own = l.own;
     let a = add(buf, at, b"(");
-    let b = add_self(buf, a, own);
-    let n = add_sources(d, l.at, l.count, buf, b, own);
+    let m = add_self(buf, a, false, l.own);
+    let n = add_sources(d, l.at, l.count, buf, m.to, m.any);
     add(buf, n.to, b")")
 }
 

@@ -1,5 +1,5 @@
 -- `add_self` is right: the test is whether the list has it.
-use Rattle.tidying.proofs.Growing.{maybe-yes, maybe-no}
+use Rattle.tidying.proofs.Members.{self-none, self-some}
 use borrow.Author.Needs.{needs}
 use Rattle.tidying.proofs.add_self.Statement.{statement}
 use Rattle.tidying.proofs.add_self.Tie as tie
@@ -8,8 +8,10 @@ pub add-self-spec : {M : Type 1} → statement M
 add-self-spec =
     tie.close
     (tie.spec
+    (λ c. search self-none)
     (λ c. search needs)
     (λ c κs. search needs)
     (λ c. search needs)
-    (λ c. search maybe-yes)
-    (λ c. search maybe-no))
+    (λ c κs. search needs)
+    (λ c. search needs)
+    (λ c. search self-some))
