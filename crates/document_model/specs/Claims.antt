@@ -1,4 +1,4 @@
--- Demand 3 and document 01's sentences on the table: five claims about every list of calls on a new table, refused calls included. They are proved in `proofs/Claims`.
+-- Demand 3 and document 01's sentences on the table: six claims about every list of calls on a new table, refused calls included. They are proved in `proofs/Claims`.
 use mathlib.Core.Path.{_≡_}
 use Prim.Native.Nat.{ℕ, _+_, _<_, _≤_}
 use mathlib.Core.Bool.{Bool, true, false}
@@ -10,6 +10,7 @@ use Rattle.limits.specs.declared.Refusal.the-variants.{Sandbox}
 use Rattle.features.specs.Features.{featureCount}
 use Rattle.origins.specs.Origins.{originOf, nullText}
 use Rattle.dictionaries.specs.OneItemMore.{OneItemMore}
+use Rattle.declarations.specs.Declarations.{isMalformed}
 use Rattle.containers.specs.Attributes.{Attributes}
 use Rattle.containers.specs.Widening.{WordMore}
 use Rattle.decisions.specs.Decisions.{Decision}
@@ -109,9 +110,29 @@ pub record ForecastComesTrue : Type 0 where
 
 -- ---- 5. Refusals, exactly
 
+-- a refusal, or an answer of the call's own kind
+pub data AnswerFits : Call → Answer → Type 0 where
+  any-refused : {c : Call} {n : Refusal} → AnswerFits c (refused n)
+  top-loaded : {h o : Text} {s : ℕ} {m : Bool} → AnswerFits (topLoad h o) (loaded s m)
+  frame-loaded : {c : ℕ} {h o : Text} {a : Attributes} {s : ℕ} {m : Bool} → AnswerFits (framedLoad c h o a) (loaded s m)
+  unload-removed : {s n : ℕ} → AnswerFits (unload s) (removed n)
+  question-decided : {s f : ℕ} {o : Text} {d : Decision} → AnswerFits (question s f o) (decision d)
+  enabled-numbered : {s m : ℕ} → AnswerFits (enabledFeatures s) (features m)
+  listing-listed : {s n : ℕ} {run run′ : List ℕ} → AnswerFits (listing s run) (serials n run′)
+  forecast-numbered : {c m : ℕ} {a : Attributes} → AnswerFits (forecastOf c a) (features m)
+
 pub record RefusalsExactly : Type 0 where
   -- "Given exactly when (and no earlier row of the order applies)"
   pub refused-by-first : (cs : List Call) (c : Call) (n : Refusal) → answerAfter cs c ≡ refused n → (r : Row) × First (history cs) c r × (refusalOf r ≡ n)
   pub first-is-refused : (cs : List Call) (c : Call) (r : Row) → First (history cs) c r → answerAfter cs c ≡ refused (refusalOf r)
   -- "A refusal returns only its number and changes nothing."
   pub refused-changes-nothing : (cs : List Call) (c : Call) (n : Refusal) (ds : List Call) → answerAfter cs c ≡ refused n → answersAfter (cs ++ (c ∷ [])) ds ≡ answersAfter cs ds
+  -- a call that isn't refused has an answer of its own kind: a load its serial, an unload how many, a question Enabled or Disabled, and so on
+  pub answer-fits : (cs : List Call) (c : Call) → AnswerFits c (answerAfter cs c)
+
+-- ---- 6. Settled at load
+
+pub record SettledAtLoad : Type 0 where
+  -- "A malformed header declares nothing, and the load says so."
+  pub top-says : (cs : List Call) (h o : Text) (s : ℕ) (malformed : Bool) → answerAfter cs (topLoad h o) ≡ loaded s malformed → malformed ≡ isMalformed h
+  pub framed-says : (cs : List Call) (c : ℕ) (h o : Text) (a : Attributes) (s : ℕ) (malformed : Bool) → answerAfter cs (framedLoad c h o a) ≡ loaded s malformed → malformed ≡ isMalformed h

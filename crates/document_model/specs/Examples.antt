@@ -170,6 +170,11 @@ rows =
       calls = topLoad (text "camera=(\"https://b.example\")") (text "https://a.example") ∷ question 1 camera (text "https://b.example") ∷ question 1 camera [] ∷ question 1 camera (text "https://a.example") ∷ [];
       expected = loaded 1 false ∷ decision enabled ∷ decision disabled ∷ decision disabled ∷ [];
     }
+    -- a malformed header declares nothing, and the load says so
+    ∷ record {
+      calls = topLoad (text "camera=(self") (text "https://a.example") ∷ question 1 camera [] ∷ [];
+      expected = loaded 1 true ∷ decision enabled ∷ [];
+    }
     -- forecast: the ten with default *, worth 64,908, fullscreen, 16, and usb, 65,536; enabled: without usb and forms, 8, which the frame's header declares
     ∷ record {
       calls = top [] ∷ forecastOf 1 wide ∷ framedLoad 1 (text "forms=(), usb=()") (text "https://b.example") wide ∷ enabledFeatures 2 ∷ [];
