@@ -1,16 +1,21 @@
--- Claim 6, and the answers' kinds: each accepted answer is what the last line of its call says. Assumes nothing.
-use mathlib.Core.Path.{_≡_, refl}
+-- Claim 6, and the answers' kinds: each accepted answer is what the last line of its call says; and a serial that is loaded before and after names the same document. Assumes nothing.
+use mathlib.Core.Path.{_≡_, refl, sym, ap, subst, _∙_}
 use Prim.Native.Nat.{ℕ}
-use mathlib.Core.Bool.{Bool}
+use mathlib.Core.Bool.{Bool, true, false}
+use mathlib.Core.Option.{Option, some, none}
+use mathlib.Core.List.{List, _++_}
 use Rattle.ascii.proofs.Clash.{clash}
 use Rattle.limits.specs.declared.Refusal.{Refusal}
 use Rattle.limits.specs.declared.Refusal.the-variants.{NoSuchFeature, BadOrigin, TooLong, Sandbox, Full, Spent, Small}
 use Rattle.declarations.specs.Declarations.{isMalformed}
 use Rattle.containers.specs.Attributes.{Attributes}
-use Rattle.document_model.specs.Model.{Text, Identity, Document, Table, find, Call, topLoad, framedLoad, unload, question, enabledFeatures, listing, forecastOf, Answer, refused, loaded, Outcome, textsFit, load, fittingOutcome, outcome, answerTo}
+use Rattle.document_model.specs.Model.{Text, Identity, Document, Table, find, Call, topLoad, framedLoad, unload, question, enabledFeatures, listing, forecastOf, Answer, refused, loaded, Outcome, refuseUnless, withDocument, textsFit, load, fittingOutcome, outcome, answerIn, answerTo, tableAfter}
+use Rattle.document_model.specs.History.{LoadedIn, history}
 use Rattle.document_model.specs.Claims.{AnswerFits, any-refused, top-loaded, frame-loaded, unload-removed, question-decided, enabled-numbered, listing-listed, forecast-numbered}
-use Rattle.document_model.proofs.Tables.{finds}
+use Rattle.document_model.proofs.Tables.{finds, in-find}
 use Rattle.document_model.proofs.Effects.{Ends, unless-ends, with-ends, ends}
+use Rattle.document_model.proofs.Invariant.{reachable, later-after, same-doc}
+use Rattle.document_model.proofs.Agreement.{agrees}
 
 -- ---- the answers' kinds, a load's with what it says of its header
 
@@ -92,3 +97,55 @@ top-says h o t = answer-right (topLoad h o) t .says
 
 pub framed-says : (c : ℕ) (h o : Text) (a : Attributes) (t : Table) (s : ℕ) (m : Bool) → answerTo (framedLoad c h o a) t ≡ loaded s m → m ≡ isMalformed h
 framed-says c h o a t = answer-right (framedLoad c h o a) t .says
+
+-- ---- policies are settled at load
+
+-- the serial of a loaded document finds one
+loaded-found : (cs : List Call) (s : ℕ) → LoadedIn (history cs) s → (x : Document) × (find s (tableAfter cs .docs) ≡ some x)
+loaded-found cs s l =
+    let w = agrees cs .is-there s l in
+    (w .0, subst (λ (k : ℕ). find k (tableAfter cs .docs) ≡ some (w .0)) (w .2) (in-find 1 (tableAfter cs .docs) (tableAfter cs .next) (reachable cs .rising) (w .0) (w .1)))
+
+-- and after further calls the same
+found-again : (cs ds : List Call) (s : ℕ) → LoadedIn (history cs) s → LoadedIn (history (cs ++ ds)) s → find s (tableAfter (cs ++ ds) .docs) ≡ find s (tableAfter cs .docs)
+found-again cs ds s l m =
+    let x = loaded-found cs s l in
+    let y = loaded-found (cs ++ ds) s m in
+    y .1 ∙ ap some (sym (same-doc (tableAfter cs) (tableAfter (cs ++ ds)) (reachable cs) (later-after cs ds) s (x .0) (y .0) (x .1) (y .1))) ∙ sym (x .1)
+
+-- answers of tests and of what is found
+unless-same : (n : Refusal) (b : Bool) (j k : Outcome) → answerIn j ≡ answerIn k → answerIn (refuseUnless n b j) ≡ answerIn (refuseUnless n b k)
+unfolding refuseUnless
+unless-same n true j k e = e
+unless-same n false j k e = refl
+
+with-same : (o p : Option Document) (j k : Document → Outcome) → o ≡ p → ((d : Document) → answerIn (j d) ≡ answerIn (k d)) → answerIn (withDocument o j) ≡ answerIn (withDocument p k)
+unfolding withDocument
+with-same none none j k e f = refl
+with-same none (some d) j k e f = clash cc
+with-same (some d) none j k e f = clash cc
+with-same (some c) (some d) j k e f = let z : c ≡ d = cc in f c ∙ ap (λ (x : Document). answerIn (k x)) z
+
+module _ (s : ℕ) (t u : Table) (e : find s (u .docs) ≡ find s (t .docs)) where
+  question-same : (f : ℕ) (o : Text) → answerTo (question s f o) u ≡ answerTo (question s f o) t
+  unfolding answerTo outcome fittingOutcome
+  question-same f o =
+      unless-same TooLong _ _ _ (unless-same BadOrigin _ _ _ (unless-same NoSuchFeature _ _ _ (with-same (find s (u .docs)) (find s (t .docs)) _ _ e (λ d. refl))))
+
+  enabled-same : answerTo (enabledFeatures s) u ≡ answerTo (enabledFeatures s) t
+  unfolding answerTo outcome fittingOutcome
+  enabled-same = unless-same TooLong _ _ _ (with-same (find s (u .docs)) (find s (t .docs)) _ _ e (λ d. refl))
+
+  forecast-same : (a : Attributes) → answerTo (forecastOf s a) u ≡ answerTo (forecastOf s a) t
+  unfolding answerTo outcome fittingOutcome
+  forecast-same a = unless-same TooLong _ _ _ (unless-same BadOrigin _ _ _ (with-same (find s (u .docs)) (find s (t .docs)) _ _ e (λ d. refl)))
+
+module _ (cs ds : List Call) (s : ℕ) (l : LoadedIn (history cs) s) (m : LoadedIn (history (cs ++ ds)) s) where
+  pub question-settled : (f : ℕ) (o : Text) → answerTo (question s f o) (tableAfter (cs ++ ds)) ≡ answerTo (question s f o) (tableAfter cs)
+  question-settled = question-same s (tableAfter cs) (tableAfter (cs ++ ds)) (found-again cs ds s l m)
+
+  pub enabled-settled : answerTo (enabledFeatures s) (tableAfter (cs ++ ds)) ≡ answerTo (enabledFeatures s) (tableAfter cs)
+  enabled-settled = enabled-same s (tableAfter cs) (tableAfter (cs ++ ds)) (found-again cs ds s l m)
+
+  pub forecast-settled : (a : Attributes) → answerTo (forecastOf s a) (tableAfter (cs ++ ds)) ≡ answerTo (forecastOf s a) (tableAfter cs)
+  forecast-settled = forecast-same s (tableAfter cs) (tableAfter (cs ++ ds)) (found-again cs ds s l m)

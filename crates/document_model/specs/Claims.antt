@@ -18,7 +18,7 @@ use Rattle.decisions.specs.Decisions.Decision.{disabled}
 use Rattle.decisions.specs.Masks.{decisionAt}
 use Rattle.decisions.specs.Widening.{Stays}
 use Rattle.document_model.specs.Runs.{Each}
-use Rattle.document_model.specs.Model.{Text, isGoodOrigin, valuesFrom, Call, topLoad, framedLoad, unload, question, enabledFeatures, listing, forecastOf, Answer, refused, loaded, removed, decision, features, serials, answers, answerAfter, answersAfter}
+use Rattle.document_model.specs.Model.{Text, isGoodOrigin, valuesFrom, Call, topLoad, framedLoad, unload, question, enabledFeatures, listing, forecastOf, Answer, refused, loaded, removed, decision, features, serials, runAfter, answers, answerAfter, answersAfter}
 use Rattle.document_model.specs.History.{BeneathIn, LoadedIn, history, acceptedLoads, unloadSum, given, Exactly, AreLoaded, AreBeneath}
 use Rattle.document_model.specs.Refusals.{Row, refusalOf, First}
 
@@ -127,6 +127,8 @@ pub record RefusalsExactly : Type 0 where
   pub first-is-refused : (cs : List Call) (c : Call) (r : Row) → First (history cs) c r → answerAfter cs c ≡ refused (refusalOf r)
   -- "A refusal returns only its number and changes nothing."
   pub refused-changes-nothing : (cs : List Call) (c : Call) (n : Refusal) (ds : List Call) → answerAfter cs c ≡ refused n → answersAfter (cs ++ (c ∷ [])) ds ≡ answersAfter cs ds
+  -- and so a refused listing leaves the lent run as it was
+  pub refused-keeps-run : (cs : List Call) (s : ℕ) (run : List ℕ) (n : Refusal) → answerAfter cs (listing s run) ≡ refused n → runAfter (answerAfter cs (listing s run)) run ≡ run
   -- a call that isn't refused has an answer of its own kind: a load its serial, an unload how many, a question Enabled or Disabled, and so on
   pub answer-fits : (cs : List Call) (c : Call) → AnswerFits c (answerAfter cs c)
 
@@ -136,3 +138,9 @@ pub record SettledAtLoad : Type 0 where
   -- "A malformed header declares nothing, and the load says so."
   pub top-says : (cs : List Call) (h o : Text) (s : ℕ) (malformed : Bool) → answerAfter cs (topLoad h o) ≡ loaded s malformed → malformed ≡ isMalformed h
   pub framed-says : (cs : List Call) (c : ℕ) (h o : Text) (a : Attributes) (s : ℕ) (malformed : Bool) → answerAfter cs (framedLoad c h o a) ≡ loaded s malformed → malformed ≡ isMalformed h
+  -- "Policies are settled at load.": a document that is loaded before further calls and after them answers the same, for every feature and every origin text
+  pub question-settled : (cs ds : List Call) (s : ℕ) → LoadedIn (history cs) s → LoadedIn (history (cs ++ ds)) s
+      → (f : ℕ) (o : Text) → answerAfter (cs ++ ds) (question s f o) ≡ answerAfter cs (question s f o)
+  pub enabled-settled : (cs ds : List Call) (s : ℕ) → LoadedIn (history cs) s → LoadedIn (history (cs ++ ds)) s → answerAfter (cs ++ ds) (enabledFeatures s) ≡ answerAfter cs (enabledFeatures s)
+  -- and so do forecasts of its frames
+  pub forecast-settled : (cs ds : List Call) (s : ℕ) → LoadedIn (history cs) s → LoadedIn (history (cs ++ ds)) s → (a : Attributes) → answerAfter (cs ++ ds) (forecastOf s a) ≡ answerAfter cs (forecastOf s a)
