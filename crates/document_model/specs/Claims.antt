@@ -25,7 +25,7 @@ use Rattle.document_model.specs.Refusals.{Row, refusalOf, First}
 -- ---- 1. Disabled flows down
 
 -- "if after it a loaded document is Disabled for a feature at its own origin, every document beneath it is Disabled for it at every origin, then and after any further calls, while both stay loaded":
--- the document d after the calls cs, the document e after the further calls ds, which may be none. A document that is loaded and beneath d is only while d is loaded
+-- the document d after the calls cs, the document e after the further calls ds, which may be none. If e is loaded and beneath d, then d is loaded
 abbrev pub DisabledFlowsDown : Type 0
 DisabledFlowsDown =
     (cs ds : List Call) (d e f : ℕ) → answerAfter cs (question d f []) ≡ decision disabled
@@ -89,7 +89,8 @@ pub record SerialsAndCounts : Type 0 where
 
 -- ---- 4. A forecast comes true
 
--- the origin text with which a frame's document arrives at the declared origin: the src text; or `null` where the load with the src text is refused with 5, and so the declared origin is fresh
+-- an origin text with which a frame's document arrives at the declared origin: the src text; or `null` where the load with the src text is refused with 5, and so the declared origin is fresh.
+-- Two that arrive there as well aren't spoken of: for an empty src the container's own origin in full, and the empty text for a src that is the container's own origin in full
 pub data AtDeclared (cs : List Call) (c : ℕ) (a : Attributes) : Text → Type 0 where
   as-src : AtDeclared cs c a (a .src)
   as-null : answerAfter cs (framedLoad c [] (a .src) a) ≡ refused Sandbox → AtDeclared cs c a nullText

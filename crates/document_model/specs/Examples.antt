@@ -180,8 +180,8 @@ rows =
       calls = top [] ∷ forecastOf 1 wide ∷ framedLoad 1 (text "forms=(), usb=()") (text "https://b.example") wide ∷ enabledFeatures 2 ∷ [];
       expected = loaded 1 false ∷ features 130460 ∷ loaded 2 false ∷ features 64916 ∷ [];
     }
-    -- the seventeenth
-    ∷ record { calls = many 17; expected = map (λ n. loaded n false) (1 ∷ 2 ∷ 3 ∷ 4 ∷ 5 ∷ 6 ∷ 7 ∷ 8 ∷ 9 ∷ 10 ∷ 11 ∷ 12 ∷ 13 ∷ 14 ∷ 15 ∷ 16 ∷ []) ++ (refused Full ∷ []) }
+    -- the seventeenth load; a forecast is no load, and answers on a full table too
+    ∷ record { calls = many 17 ++ (forecastOf 1 (allowing "") ∷ []); expected = map (λ n. loaded n false) (1 ∷ 2 ∷ 3 ∷ 4 ∷ 5 ∷ 6 ∷ 7 ∷ 8 ∷ 9 ∷ 10 ∷ 11 ∷ 12 ∷ 13 ∷ 14 ∷ 15 ∷ 16 ∷ []) ++ (refused Full ∷ features 64908 ∷ []) }
     ∷ []
 
 rows-right : map (λ r. answers (r .calls)) rows ≡ map (λ r. r .expected) rows
