@@ -17,7 +17,7 @@ use Rattle.origins.specs.Origins.{OriginSaid, originOf}
 use Rattle.origins.specs.Origins.OriginSaid.{saysEmpty, saysNull, saysTuple, noOrigin}
 use Rattle.containers.specs.Attributes.{Attributes}
 use Rattle.document_model.specs.Runs.{leftBy, answersBy}
-use Rattle.document_model.specs.Model.{Text, isGoodOrigin, isNull, isGoodAtTop, Identity, Document, frameSandboxed, Table, find, serialsBeneath, Call, topLoad, framedLoad, unload, question, enabledFeatures, listing, forecastOf, Answer, refused, Outcome, refuse, accept, refuseUnless, withDocument, isShort, textsFit, load, fittingOutcome, outcome, answerIn, answerTo, tableLeft, tableAfter, answersAfter}
+use Rattle.document_model.specs.Model.{Text, isGoodOrigin, isNull, isGoodAtTop, Identity, Document, frameSandboxed, Table, find, serialsBeneath, Call, topLoad, framedLoad, unload, question, enabledFeatures, listing, forecastOf, Answer, refused, runAfter, Outcome, refuse, accept, refuseUnless, withDocument, isShort, textsFit, load, fittingOutcome, outcome, answerIn, answerTo, tableLeft, tableAfter, answersAfter}
 use Rattle.document_model.specs.History.{Event, LoadedIn, BeneathIn, history}
 use Rattle.document_model.specs.Claims.{isAccepted}
 use Rattle.document_model.specs.Refusals.{Row, inputLong, badOrigin, badSrc, noFeature, notLoaded, sandboxed, full, spent, notDictionary, outputLong, small, place, refusalOf, Input, top-header, framed-header, framed-allow, framed-sandbox, forecast-allow, forecast-sandbox, Names, framed-names, unload-names, question-names, enabled-names, listing-names, forecast-names, IsLoad, is-top, is-framed, Holds, long, top-bad, top-empty, framed-bad, question-bad, framed-src, forecast-src, over-sixteen, closed, in-container, in-attribute, sixteen, all-given, short-run, First}
@@ -398,3 +398,6 @@ first-is-refused cs c r f = first-answer (outcome c (tableAfter cs)) (verdict cs
 pub refused-changes-nothing : (cs : List Call) (c : Call) (n : Refusal) (ds : List Call) → answerTo c (tableAfter cs) ≡ refused n → answersAfter (cs ++ (c ∷ [])) ds ≡ answersAfter cs ds
 unfolding leftBy
 refused-changes-nothing cs c n ds e = ap (answersBy answerTo tableLeft ds) (table-append cs (c ∷ []) ∙ refused-keeps c (tableAfter cs) n e)
+
+pub refused-keeps-run : (cs : List Call) (s : ℕ) (run : List ℕ) (n : Refusal) → answerTo (listing s run) (tableAfter cs) ≡ refused n → runAfter (answerTo (listing s run) (tableAfter cs)) run ≡ run
+refused-keeps-run cs s run n e = ap (λ (a : Answer). runAfter a run) e

@@ -1,4 +1,4 @@
--- Demand 3 and document 01's sentences on the table: five claims about every list of calls on a new table, refused calls included. They are proved in `proofs/Claims`.
+-- Demand 3 and document 01's sentences on the table: six claims about every list of calls on a new table, refused calls included. They are proved in `proofs/Claims`.
 use mathlib.Core.Path.{_≡_}
 use Prim.Native.Nat.{ℕ, _+_, _<_, _≤_}
 use mathlib.Core.Bool.{Bool, true, false}
@@ -10,6 +10,7 @@ use Rattle.limits.specs.declared.Refusal.the-variants.{Sandbox}
 use Rattle.features.specs.Features.{featureCount}
 use Rattle.origins.specs.Origins.{originOf, nullText}
 use Rattle.dictionaries.specs.OneItemMore.{OneItemMore}
+use Rattle.declarations.specs.Declarations.{isMalformed}
 use Rattle.containers.specs.Attributes.{Attributes}
 use Rattle.containers.specs.Widening.{WordMore}
 use Rattle.decisions.specs.Decisions.{Decision}
@@ -17,14 +18,14 @@ use Rattle.decisions.specs.Decisions.Decision.{disabled}
 use Rattle.decisions.specs.Masks.{decisionAt}
 use Rattle.decisions.specs.Widening.{Stays}
 use Rattle.document_model.specs.Runs.{Each}
-use Rattle.document_model.specs.Model.{Text, isGoodOrigin, valuesFrom, Call, topLoad, framedLoad, unload, question, enabledFeatures, listing, forecastOf, Answer, refused, loaded, removed, decision, features, serials, answers, answerAfter, answersAfter}
+use Rattle.document_model.specs.Model.{Text, isGoodOrigin, valuesFrom, Call, topLoad, framedLoad, unload, question, enabledFeatures, listing, forecastOf, Answer, refused, loaded, removed, decision, features, serials, runAfter, answers, answerAfter, answersAfter}
 use Rattle.document_model.specs.History.{BeneathIn, LoadedIn, history, acceptedLoads, unloadSum, given, Exactly, AreLoaded, AreBeneath}
 use Rattle.document_model.specs.Refusals.{Row, refusalOf, First}
 
 -- ---- 1. Disabled flows down
 
 -- "if after it a loaded document is Disabled for a feature at its own origin, every document beneath it is Disabled for it at every origin, then and after any further calls, while both stay loaded":
--- the document d after the calls cs, the document e after the further calls ds, which may be none. A document that is loaded and beneath d is only while d is loaded
+-- the document d after the calls cs, the document e after the further calls ds, which may be none. If e is loaded and beneath d, then d is loaded
 abbrev pub DisabledFlowsDown : Type 0
 DisabledFlowsDown =
     (cs ds : List Call) (d e f : ℕ) → answerAfter cs (question d f []) ≡ decision disabled
@@ -88,7 +89,8 @@ pub record SerialsAndCounts : Type 0 where
 
 -- ---- 4. A forecast comes true
 
--- the origin text with which a frame's document arrives at the declared origin: the src text; or `null` where the load with the src text is refused with 5, and so the declared origin is fresh
+-- an origin text with which a frame's document arrives at the declared origin: the src text; or `null` where the load with the src text is refused with 5, and so the declared origin is fresh.
+-- Two that arrive there as well aren't spoken of: for an empty src the container's own origin in full, and the empty text for a src that is the container's own origin in full
 pub data AtDeclared (cs : List Call) (c : ℕ) (a : Attributes) : Text → Type 0 where
   as-src : AtDeclared cs c a (a .src)
   as-null : answerAfter cs (framedLoad c [] (a .src) a) ≡ refused Sandbox → AtDeclared cs c a nullText
@@ -109,9 +111,37 @@ pub record ForecastComesTrue : Type 0 where
 
 -- ---- 5. Refusals, exactly
 
+-- a refusal, or an answer of the call's own kind
+pub data AnswerFits : Call → Answer → Type 0 where
+  any-refused : {c : Call} {n : Refusal} → AnswerFits c (refused n)
+  top-loaded : {h o : Text} {s : ℕ} {m : Bool} → AnswerFits (topLoad h o) (loaded s m)
+  frame-loaded : {c : ℕ} {h o : Text} {a : Attributes} {s : ℕ} {m : Bool} → AnswerFits (framedLoad c h o a) (loaded s m)
+  unload-removed : {s n : ℕ} → AnswerFits (unload s) (removed n)
+  question-decided : {s f : ℕ} {o : Text} {d : Decision} → AnswerFits (question s f o) (decision d)
+  enabled-numbered : {s m : ℕ} → AnswerFits (enabledFeatures s) (features m)
+  listing-listed : {s n : ℕ} {run run′ : List ℕ} → AnswerFits (listing s run) (serials n run′)
+  forecast-numbered : {c m : ℕ} {a : Attributes} → AnswerFits (forecastOf c a) (features m)
+
 pub record RefusalsExactly : Type 0 where
   -- "Given exactly when (and no earlier row of the order applies)"
   pub refused-by-first : (cs : List Call) (c : Call) (n : Refusal) → answerAfter cs c ≡ refused n → (r : Row) × First (history cs) c r × (refusalOf r ≡ n)
   pub first-is-refused : (cs : List Call) (c : Call) (r : Row) → First (history cs) c r → answerAfter cs c ≡ refused (refusalOf r)
   -- "A refusal returns only its number and changes nothing."
   pub refused-changes-nothing : (cs : List Call) (c : Call) (n : Refusal) (ds : List Call) → answerAfter cs c ≡ refused n → answersAfter (cs ++ (c ∷ [])) ds ≡ answersAfter cs ds
+  -- and so a refused listing leaves the lent run as it was
+  pub refused-keeps-run : (cs : List Call) (s : ℕ) (run : List ℕ) (n : Refusal) → answerAfter cs (listing s run) ≡ refused n → runAfter (answerAfter cs (listing s run)) run ≡ run
+  -- a call that isn't refused has an answer of its own kind: a load its serial, an unload how many, a question Enabled or Disabled, and so on
+  pub answer-fits : (cs : List Call) (c : Call) → AnswerFits c (answerAfter cs c)
+
+-- ---- 6. Settled at load
+
+pub record SettledAtLoad : Type 0 where
+  -- "A malformed header declares nothing, and the load says so."
+  pub top-says : (cs : List Call) (h o : Text) (s : ℕ) (malformed : Bool) → answerAfter cs (topLoad h o) ≡ loaded s malformed → malformed ≡ isMalformed h
+  pub framed-says : (cs : List Call) (c : ℕ) (h o : Text) (a : Attributes) (s : ℕ) (malformed : Bool) → answerAfter cs (framedLoad c h o a) ≡ loaded s malformed → malformed ≡ isMalformed h
+  -- "Policies are settled at load.": a document that is loaded before further calls and after them answers the same, for every feature and every origin text
+  pub question-settled : (cs ds : List Call) (s : ℕ) → LoadedIn (history cs) s → LoadedIn (history (cs ++ ds)) s
+      → (f : ℕ) (o : Text) → answerAfter (cs ++ ds) (question s f o) ≡ answerAfter cs (question s f o)
+  pub enabled-settled : (cs ds : List Call) (s : ℕ) → LoadedIn (history cs) s → LoadedIn (history (cs ++ ds)) s → answerAfter (cs ++ ds) (enabledFeatures s) ≡ answerAfter cs (enabledFeatures s)
+  -- and so do forecasts of its frames
+  pub forecast-settled : (cs ds : List Call) (s : ℕ) → LoadedIn (history cs) s → LoadedIn (history (cs ++ ds)) s → (a : Attributes) → answerAfter (cs ++ ds) (forecastOf s a) ≡ answerAfter cs (forecastOf s a)

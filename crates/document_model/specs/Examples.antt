@@ -28,6 +28,10 @@ allowing allow = record { allow = text allow; allowfullscreen = false; hasSandbo
 abbrev pub sandboxing : String → Attributes
 sandboxing allow = record { allow = text allow; allowfullscreen = false; hasSandbox = true; sandbox = []; src = text "https://b.example" }
 
+-- one with the same src that allows usb everywhere and has allowfullscreen
+abbrev wide : Attributes
+wide = record { allow = text "usb *"; allowfullscreen = true; hasSandbox = false; sandbox = []; src = text "https://b.example" }
+
 -- a run, and the answers that it must give
 record Run : Type 0 where
   calls : List Call
@@ -161,8 +165,23 @@ rows =
           ∷ [];
       expected = loaded 1 false ∷ refused Sandbox ∷ loaded 2 true ∷ refused Sandbox ∷ refused Small ∷ serials 0 [] ∷ [];
     }
-    -- the seventeenth
-    ∷ record { calls = many 17; expected = map (λ n. loaded n false) (1 ∷ 2 ∷ 3 ∷ 4 ∷ 5 ∷ 6 ∷ 7 ∷ 8 ∷ 9 ∷ 10 ∷ 11 ∷ 12 ∷ 13 ∷ 14 ∷ 15 ∷ 16 ∷ []) ++ (refused Full ∷ []) }
+    -- a question is about the origin of its text, and by the declared list: https://b.example alone
+    ∷ record {
+      calls = topLoad (text "camera=(\"https://b.example\")") (text "https://a.example") ∷ question 1 camera (text "https://b.example") ∷ question 1 camera [] ∷ question 1 camera (text "https://a.example") ∷ [];
+      expected = loaded 1 false ∷ decision enabled ∷ decision disabled ∷ decision disabled ∷ [];
+    }
+    -- a malformed header declares nothing, and the load says so
+    ∷ record {
+      calls = topLoad (text "camera=(self") (text "https://a.example") ∷ question 1 camera [] ∷ [];
+      expected = loaded 1 true ∷ decision enabled ∷ [];
+    }
+    -- forecast: the ten with default *, worth 64,908, fullscreen, 16, and usb, 65,536; enabled: without usb and forms, 8, which the frame's header declares
+    ∷ record {
+      calls = top [] ∷ forecastOf 1 wide ∷ framedLoad 1 (text "forms=(), usb=()") (text "https://b.example") wide ∷ enabledFeatures 2 ∷ [];
+      expected = loaded 1 false ∷ features 130460 ∷ loaded 2 false ∷ features 64916 ∷ [];
+    }
+    -- the seventeenth load; a forecast is no load, and answers on a full table too
+    ∷ record { calls = many 17 ++ (forecastOf 1 (allowing "") ∷ []); expected = map (λ n. loaded n false) (1 ∷ 2 ∷ 3 ∷ 4 ∷ 5 ∷ 6 ∷ 7 ∷ 8 ∷ 9 ∷ 10 ∷ 11 ∷ 12 ∷ 13 ∷ 14 ∷ 15 ∷ 16 ∷ []) ++ (refused Full ∷ features 64908 ∷ []) }
     ∷ []
 
 rows-right : map (λ r. answers (r .calls)) rows ≡ map (λ r. r .expected) rows

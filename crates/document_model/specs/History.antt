@@ -1,4 +1,4 @@
--- 01, "What demand 3 speaks of": "loaded", "beneath" and "sandboxed", and counts of loads, by the calls and their answers alone. No table is spoken of.
+-- 01, "What demand 3 speaks of": "loaded" and "beneath"; "Header and attribute": "sandboxed"; and counts of loads; all by the calls and their answers alone. No table is spoken of.
 use Prim.Native.Nat.{ℕ, suc, _+_, _≤_}
 use mathlib.Core.Path.{_≡_}
 use mathlib.Core.Bool.{Bool, true}

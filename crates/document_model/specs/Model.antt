@@ -182,6 +182,15 @@ pub data Answer : Type 0 where
   -- how many, and the lent run afterwards
   serials : ℕ → List ℕ → Answer
 
+-- the lent run after a listing: as its answer has it, and as it was after a refusal: "changes nothing"
+abbrev pub runAfter : Answer → List ℕ → List ℕ
+runAfter (refused n) run = run
+runAfter (loaded s m) run = run
+runAfter (removed n) run = run
+runAfter (decision d) run = run
+runAfter (features m) run = run
+runAfter (serials n after) run = after
+
 -- "A refusal returns only its number and changes nothing": an accepted call has an answer and the table afterwards
 pub data Outcome : Type 0 where
   refuse : Refusal → Outcome

@@ -16,6 +16,7 @@ use Rattle.document_model.specs.Model.{Text, Call, topLoad, framedLoad, 
 use Rattle.document_model.specs.History.{Event, LoadedIn, SandboxedIn, AreLoaded, AreBeneath, acceptedLoads}
 
 -- "Order: 4 for input texts, 3 for the document's or question's origin, 3 for src, 2, 1, 5, 6, 7, 8, 4 for output, 9."
+-- `notDictionary` and `outputLong` are tidying's rows: they hold of no call on a table
 pub data Row : Type 0 where
   inputLong badOrigin badSrc noFeature notLoaded sandboxed full spent notDictionary outputLong small : Row
 
@@ -33,7 +34,7 @@ place notDictionary = 8
 place outputLong = 9
 place small = 10
 
--- the row's number
+-- the row's refusal
 abbrev pub refusalOf : Row → Refusal
 refusalOf inputLong = TooLong
 refusalOf badOrigin = BadOrigin

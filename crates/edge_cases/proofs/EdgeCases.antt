@@ -1,10 +1,8 @@
 -- Every marked row is right, by computation. Assumes nothing.
-use mathlib.Core.Path.{_≡_, refl}
-use mathlib.Core.Bool.{true}
-use Rattle.ascii.specs.Texts.{every}
+use mathlib.Core.Path.{refl}
 use Rattle.document_model.specs.Computing.{computing}
-use Rattle.edge_cases.specs.EdgeCases.{areDecisions, right, rows}
+use Rattle.edge_cases.specs.EdgeCases.{areDecisions, EdgeCasesHold}
 
-pub edge-cases : every right rows ≡ true
+pub edge-cases : EdgeCasesHold
 unfolding computing areDecisions
 edge-cases = refl

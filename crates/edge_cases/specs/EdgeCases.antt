@@ -1,11 +1,13 @@
 -- Document 01, "Cases at the edges": the rows marked #, over the definitions that contracts cite.
 use Prim.Native.Nat.{ℕ}
 use Prim.Native.String.{String}
+use mathlib.Core.Path.{_≡_}
 use mathlib.Core.List.{List, [], _∷_, map}
 use mathlib.Core.Bool.{Bool, true, false, not, _&&_}
 use mathlib.Core.Option.{Option, some, none}
 use lib.ListN.{drop}
 use Rattle.ascii.specs.Literals.{text}
+use Rattle.ascii.specs.Texts.{every}
 use Rattle.origins.specs.Origins.{OriginSaid, originOf}
 use Rattle.origins.specs.Origins.Origin.{tuple}
 use Rattle.origins.specs.Origins.OriginSaid.{saysEmpty, saysNull, saysTuple, noOrigin}
@@ -133,3 +135,7 @@ rows =
     -- "container header `camera=("https://b.example")`, allow `camera`: Disabled in both"
     ∷ framed "camera=(\"https://b.example\")" "camera" "https://b.example" (asks 1 camera disabled ∷ asks 2 camera disabled ∷ [])
     ∷ []
+
+-- "proved, as rows of a single table under one theorem"
+abbrev pub EdgeCasesHold : Type 0
+EdgeCasesHold = every right rows ≡ true
