@@ -89,8 +89,8 @@ anyAdmits (e ∷ es) o = admits e o || anyAdmits es o
 -- 01, "How a decision falls": "A list admits an origin if it is `*`, or if it holds that origin or an expression that admits it":
 -- told whether the origin is the self-origin and whether it is the src-origin
 unfoldable pub listAdmits : Allowlist → Bool → Bool → Origin → Bool
-listAdmits all isSelf isSrc o = true
-listAdmits (listed a b es) isSelf isSrc o = a && isSelf || b && isSrc || anyAdmits es o
+listAdmits all atSelf atSrc o = true
+listAdmits (listed a b es) atSelf atSrc o = a && atSelf || b && atSrc || anyAdmits es o
 
 -- the same beside the self-origin and the src-origin
 abbrev pub allows : Allowlist → Origin → Origin → Origin → Bool
@@ -98,13 +98,13 @@ allows l selfOrigin srcOrigin o = listAdmits l (sameOrigin selfOrigin o) (sameOr
 
 -- whether the list that there may be admits an origin; no answer without a list
 unfoldable pub someAdmits : Option Allowlist → Bool → Bool → Origin → Option Bool
-someAdmits (some l) isSelf isSrc o = some (listAdmits l isSelf isSrc o)
-someAdmits none isSelf isSrc o = none
+someAdmits (some l) atSelf atSrc o = some (listAdmits l atSelf atSrc o)
+someAdmits none atSelf atSrc o = none
 
 -- whether a list of one item or word admits an origin
 unfoldable pub meaningAdmits : Meaning → Bool → Bool → Origin → Bool
-meaningAdmits star isSelf isSrc o = true
-meaningAdmits self isSelf isSrc o = isSelf
-meaningAdmits src isSelf isSrc o = isSrc
-meaningAdmits (source e) isSelf isSrc o = admits e o
-meaningAdmits nothing isSelf isSrc o = false
+meaningAdmits star atSelf atSrc o = true
+meaningAdmits self atSelf atSrc o = atSelf
+meaningAdmits src atSelf atSrc o = atSrc
+meaningAdmits (source e) atSelf atSrc o = admits e o
+meaningAdmits nothing atSelf atSrc o = false

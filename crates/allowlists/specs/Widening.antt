@@ -7,7 +7,7 @@ use Rattle.allowlists.specs.Allowlists.{Allowlist, listAdmits}
 
 -- every origin that one allowlist admits the other admits too, whatever the self-origin and the src-origin are
 pub record Wider (l m : Allowlist) : Type 0 where
-  pub keeps : (isSelf isSrc : Bool) (o : Origin) → listAdmits l isSelf isSrc o ≡ true → listAdmits m isSelf isSrc o ≡ true
+  pub keeps : (atSelf atSrc : Bool) (o : Origin) → listAdmits l atSelf atSrc o ≡ true → listAdmits m atSelf atSrc o ≡ true
 
 -- neither has a list, or both have and the second is as wide
 pub data AsWide : Option Allowlist → Option Allowlist → Type 0 where

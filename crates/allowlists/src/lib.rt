@@ -36,7 +36,7 @@ pub fn source_meaning(t: &[u8]) -> MeaningRange
     }
 }
 
-// Whether a list of one item or word, whose text is `x`, admits an origin; it is the self-origin, it is the src-origin.
+// Whether a list of one item or word, whose text is `x`, admits an origin; `is_self`: it is the self-origin; `is_src`: it is the src-origin.
 pub fn meaning_admits(
     x: &[u8],
     m: MeaningRange,

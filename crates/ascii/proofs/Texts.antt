@@ -11,7 +11,7 @@ use lib.Dec.{eqb}
 use borrow.Author.Tests.{eq-eqb, ne-eqb, eqb-true, le-leb, lt-leb}
 use Rattle.ascii.proofs.Clash.{clash}
 use Rattle.ascii.specs.Bytes.{pick}
-use Rattle.ascii.specs.Texts.{every, each, sameBy, sameBytes, partOf, before, cutAt}
+use Rattle.ascii.specs.Texts.{every, each, sameBy, sameBytes, partOf, prepended, cutAt}
 use Rattle.ascii.specs.Reading.{headOf, runOf, past}
 use Rattle.ascii.proofs.Bytes.{and-left, and-right}
 
@@ -80,7 +80,6 @@ module _ (a b : List ℕ) (i : ℕ) (r : Bool) where
 
   pub byte-ne : i < length a → i < length b → (getD a i 0 ≡ getD b i 0 → ⊥) → sameBytes (drop i a) (drop i b) ≡ r → false ≡ r
   byte-ne h g q e = same-ne (λ x. x) a b i r (getD a i 0) refl h g q e
-
 
 -- a part that lies in the text, and one that doesn't
 module _ (s : List ℕ) (a e : ℕ) where
@@ -155,6 +154,6 @@ unfolding cutAt runOf past restCut
 cut-run cuts [] = refl
 cut-run cuts (x ∷ xs) = go (cuts x) (cut-run cuts xs)
   where
-    go : (b : Bool) → cutAt cuts xs ≡ runOf (λ b. not (cuts b)) xs ∷ restCut cuts (past (λ b. not (cuts b)) xs) → pick b ([] ∷ cutAt cuts xs) (before x (cutAt cuts xs)) ≡ pick (not b) (x ∷ runOf (λ b. not (cuts b)) xs) [] ∷ restCut cuts (pick (not b) (past (λ b. not (cuts b)) xs) (x ∷ xs))
+    go : (b : Bool) → cutAt cuts xs ≡ runOf (λ b. not (cuts b)) xs ∷ restCut cuts (past (λ b. not (cuts b)) xs) → pick b ([] ∷ cutAt cuts xs) (prepended x (cutAt cuts xs)) ≡ pick (not b) (x ∷ runOf (λ b. not (cuts b)) xs) [] ∷ restCut cuts (pick (not b) (past (λ b. not (cuts b)) xs) (x ∷ xs))
     go true e = unfold pick restCut in refl
-    go false e = unfold pick before in (rw e)
+    go false e = unfold pick prepended in (rw e)

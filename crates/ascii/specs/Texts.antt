@@ -50,11 +50,11 @@ abbrev pub partIn : List ℕ → TextRange → List ℕ
 partIn s r = partOf s (r .from) (r .to)
 
 -- a byte in front of the first of several texts
-unfoldable pub before : ℕ → List (List ℕ) → List (List ℕ)
-before x [] = (x ∷ []) ∷ []
-before x (t ∷ ts) = (x ∷ t) ∷ ts
+unfoldable pub prepended : ℕ → List (List ℕ) → List (List ℕ)
+prepended x [] = (x ∷ []) ∷ []
+prepended x (t ∷ ts) = (x ∷ t) ∷ ts
 
 -- a text cut at every byte that passes a test
 unfoldable pub cutAt : (ℕ → Bool) → List ℕ → List (List ℕ)
 cutAt cuts [] = [] ∷ []
-cutAt cuts (x ∷ xs) = pick (cuts x) ([] ∷ cutAt cuts xs) (before x (cutAt cuts xs))
+cutAt cuts (x ∷ xs) = pick (cuts x) ([] ∷ cutAt cuts xs) (prepended x (cutAt cuts xs))

@@ -71,7 +71,7 @@ fn admits(header: &[u8], n: u32, same: bool, t: &[u8], o: OriginRange) -> Admiss
     match settling::settle(header, &mut kept) {
         Settled::Header(_) => settled::admits(&kept, n, same, t, o),
         Settled::TooLong => Admission::NoList,
-        Settled::Small => Admission::NoList,
+        Settled::NoRoom => Admission::NoList,
     }
 }
 
@@ -102,14 +102,7 @@ fn inherits(header: &[u8], allow: &[u8], full: bool, n: u32, t: &[u8], a: Arriva
     let policy = container_policy(allow, full, n);
     let value_own = decisions::value(Decision::Enabled, at_own);
     let value_arriving = decisions::value(Decision::Enabled, at_arriving);
-    let allowed = containers::policy_admits(
-        allow,
-        policy,
-        a.container_same,
-        a.declared_same,
-        t,
-        o,
-    );
+    let allowed = containers::policy_admits(allow, policy, a.container_same, a.declared_same, t, o);
     let default = features::default_of(n);
     decisions::inherited(Framed {
         value_own,

@@ -12,7 +12,7 @@ use Rattle.pieces.specs.Pieces.{entryOf}
 use Rattle.pieces.specs.Words.{entryList}
 use Rattle.containers.specs.Attributes.{Attributes}
 
--- "An allow attribute is cut at every `;`"
+-- an allow attribute "is cut at every `;`"
 abbrev pub isSemicolon : ℕ → Bool
 isSemicolon b = eqb b 59
 

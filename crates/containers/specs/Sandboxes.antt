@@ -29,7 +29,7 @@ sandboxes a = withoutSameOrigin (sandboxWords (a .hasSandbox) (a .sandbox))
 
 -- whether a frame's document is sandboxed, told whether the container document is: "A document loaded under either condition is itself sandboxed."
 unfoldable pub isSandboxed : Bool → Attributes → Bool
-isSandboxed container a = container || sandboxes a
+isSandboxed above a = above || sandboxes a
 
 -- what src says, beside the container's origin: "Empty means: the container's origin"; a fresh one "for src `null` too"; none where src is no origin text, which the calls refuse
 unfoldable pub srcOrigin : OriginSaid → Origin → Option Origin
@@ -44,4 +44,4 @@ freshIf sandboxed none = none
 
 -- "Declared origin: fresh and opaque if" the frame's document is sandboxed, "else the src origin text"; told whether the container document is sandboxed, and its origin
 unfoldable pub declaredOrigin : Bool → Attributes → Origin → Option Origin
-declaredOrigin sandboxed a container = freshIf (isSandboxed sandboxed a) (srcOrigin (originOf (a .src)) container)
+declaredOrigin above a container = freshIf (isSandboxed above a) (srcOrigin (originOf (a .src)) container)

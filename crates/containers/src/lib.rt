@@ -16,7 +16,7 @@ use pieces::EntryFound;
 // The number of the feature `fullscreen`.
 pub const FULLSCREEN: usize = 4;
 
-// What a frame's attributes give a feature: no list, `*`, the empty list, or the list of an entry, as a range of the allow attribute.
+// What a frame's attributes give a feature: no list, `*`, the empty list (allow and allowfullscreen never give it), or the list of an entry, as a range of the allow attribute.
 pub enum ContainerPolicy {
     None,
     All,
@@ -63,7 +63,7 @@ pub fn allow_policies(allow: &[u8], allowfullscreen: bool) -> [ContainerPolicy; 
     policies
 }
 
-// Whether a container policy admits an origin; it is the container's, it is the declared one.
+// Whether a container policy admits an origin; `is_container`: it is the container's; `is_declared`: it is the declared one.
 pub fn policy_admits(
     allow: &[u8],
     policy: ContainerPolicy,

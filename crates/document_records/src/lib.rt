@@ -112,7 +112,7 @@ pub fn is_declared(
     }
 }
 
-// *Inherited* of a feature for an origin that arrives in a frame of the document; it is the declared one.
+// *Inherited* of a feature for an origin that arrives in a frame of the document; `declared`: it is the frame's declared one.
 fn inherits(
     c: Document,
     policy: ContainerPolicy,
@@ -140,7 +140,7 @@ fn inherits(
     })
 }
 
-// What a document at an origin inherits in a frame of the document, bit n for feature n; the origin is the declared one.
+// What a document at an origin inherits in a frame of the document, bit n for feature n; `declared`: the origin is the frame's declared one.
 pub fn inherited(
     c: Document,
     allow: &[u8],

@@ -236,7 +236,7 @@ fn camera(s: &[u8]) {
     match settling::settle(s, &mut d) {
         Settled::Header(f) => show_camera(&d, f.malformed),
         Settled::TooLong => put(b": too long\n"),
-        Settled::Small => put(b": no room\n"),
+        Settled::NoRoom => put(b": no room\n"),
     }
 }
 

@@ -9,7 +9,7 @@ use lib.Seq.{drop-cons}
 use lib.Dec.{eqb}
 use borrow.Author.Tests.{eq-eqb, ne-eqb, not-true, not-false}
 use Rattle.ascii.specs.Bytes.{pick, isLabelByte}
-use Rattle.ascii.specs.Texts.{every, each, before, cutAt}
+use Rattle.ascii.specs.Texts.{every, each, prepended, cutAt}
 use Rattle.ascii.specs.Reading.{isEmpty}
 use Rattle.origins.specs.Hosts.{labels, isLabel}
 
@@ -28,8 +28,8 @@ unfolding goodFrom every isLabel
 from-fresh [] = refl
 from-fresh (l ∷ ls) = refl
 
-from-byte : (fresh b : Bool) (x : ℕ) (ls : List (List ℕ)) → isLabelByte x ≡ b → goodFrom fresh (before x ls) ≡ pick b (goodFrom false ls) false
-unfolding goodFrom before every isEmpty pick
+from-byte : (fresh b : Bool) (x : ℕ) (ls : List (List ℕ)) → isLabelByte x ≡ b → goodFrom fresh (prepended x ls) ≡ pick b (goodFrom false ls) false
+unfolding goodFrom prepended every isEmpty pick
 from-byte true true x [] e = rw e
 from-byte true false x [] e = rw e
 from-byte false true x [] e = rw e
@@ -39,7 +39,7 @@ from-byte true false x (l ∷ ls) e = rw e
 from-byte false true x (l ∷ ls) e = rw e
 from-byte false false x (l ∷ ls) e = rw e
 
-scan-step : (dot fresh : Bool) (x : ℕ) (xs : List ℕ) (r : Bool) → every isLabel (labels xs) ≡ scan true xs → goodFrom fresh (before x (labels xs)) ≡ r → goodFrom fresh (pick dot ([] ∷ labels xs) (before x (labels xs))) ≡ pick dot (pick fresh false (scan true xs)) r
+scan-step : (dot fresh : Bool) (x : ℕ) (xs : List ℕ) (r : Bool) → every isLabel (labels xs) ≡ scan true xs → goodFrom fresh (prepended x (labels xs)) ≡ r → goodFrom fresh (pick dot ([] ∷ labels xs) (prepended x (labels xs))) ≡ pick dot (pick fresh false (scan true xs)) r
 unfolding goodFrom every isEmpty pick
 scan-step true true x xs r a b = refl
 scan-step true false x xs r a b = a

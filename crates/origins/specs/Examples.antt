@@ -1,4 +1,4 @@
--- Document 01, "Cases at the edges": its marked rows about expressions, and the settled readings of origin texts and expressions, by computation.
+-- The settled readings of origin texts, expressions and matching, by computation.
 use Prim.Native.Nat.{ℕ}
 use Prim.Native.String.{String}
 use mathlib.Core.Path.{_≡_, refl}
@@ -40,20 +40,22 @@ abbrev right : Case → Bool
 right (admitted e o) = isYes (verdict (expressionOf (text e)) (originOf (text o)))
 right (refused e o) = isNo (verdict (expressionOf (text e)) (originOf (text o)))
 
--- the rows marked # about expressions
-abbrev marked : List Case
-marked =
-    admitted "https://*.example.com" "https://geo.example.com"
-    ∷ refused "https://*.example.com" "https://example.com"
-    ∷ admitted "https://example.com:*" "https://example.com:444"
-    ∷ refused "https://example.com" "https://example.com:444"
-    ∷ admitted "HTTPS://Example.COM:0443" "https://example.com"
-    ∷ refused "http://example.com" "https://example.com"
+-- a scheme alone, `*`, subdomains and ports, beside the cases of document 01 that stand in `edge_cases`
+abbrev matches : List Case
+matches =
+    admitted "https:" "https://a.example:444"
+    ∷ refused "https:" "http://a.example"
+    ∷ admitted "https://*" "https://a.example"
+    ∷ refused "https://*" "https://a.example:444"
+    ∷ admitted "https://*.example.com" "https://a.b.example.com"
+    ∷ refused "https://*.example.com" "https://badexample.com"
+    ∷ admitted "http://example.com:443" "http://example.com:443"
+    ∷ refused "http://example.com:443" "https://example.com"
     ∷ []
 
-marked-right : every right marked ≡ true
+matches-right : every right matches ≡ true
 unfolding computing
-marked-right = refl
+matches-right = refl
 
 -- texts, and whether they say a tuple origin
 abbrev isTuple : OriginSaid → Bool

@@ -99,24 +99,24 @@ fn labels_good(h: &[u8], anycase: bool) -> bool
     ensures { λ r. ⌜ r ≡ every isLabel (labels (each (fold anycase) (now (h .entry)))) ⌝ }
 {
     let mut i: usize = 0;
-    let mut fresh = true;
+    let mut starts = true;
     while i < h.len() {
         let b = folded(h[i], anycase);
         if b == b'.' {
-            if fresh {
+            if starts {
                 return false;
             }
-            fresh = true;
+            starts = true;
             i += 1;
         } else {
             if !ascii::is_label_byte(b) {
                 return false;
             }
-            fresh = false;
+            starts = false;
             i += 1;
         }
     }
-    !fresh
+    !starts
 }
 
 // Whether a text is a host; `anycase`: its letters in lower case.

@@ -10,17 +10,21 @@ use borrow.Author.Tests.{leb-true}
 use Rattle.ascii.specs.Bytes.{pick, isWhite}
 use Rattle.ascii.specs.Literals.{text}
 use Rattle.ascii.specs.Reading.{isEmpty}
-use Rattle.ascii.specs.Texts.{every, before, cutAt}
+use Rattle.ascii.specs.Texts.{every, prepended, cutAt}
 use Rattle.ascii.proofs.Bytes.{and-left, and-right}
 use Rattle.pieces.specs.Pieces.{nonEmpty, words, piecesOf}
-use Rattle.pieces.specs.OneWordMore.{OneWordMore, isWord}
+use Rattle.pieces.specs.OneWordMore.{OneWordMore}
+
+-- a text that can be a word: of at least one byte, none of them white and none that ends a piece
+unfoldable pub isWord : (ℕ → Bool) → List ℕ → Bool
+isWord ends w = not (isEmpty w) && every (λ b. not (isWhite b)) w && every (λ b. not (ends b)) w
 
 -- what is cut has no byte that it is cut at, and only bytes of the text
 and-both : (a b : Bool) → a ≡ true → b ≡ true → a && b ≡ true
 and-both a b e f = rw (e, f)
 
-every-before : (q : ℕ → Bool) (x : ℕ) (ts : List (List ℕ)) → q x ≡ true → every (every q) ts ≡ true → every (every q) (before x ts) ≡ true
-unfolding every before
+every-before : (q : ℕ → Bool) (x : ℕ) (ts : List (List ℕ)) → q x ≡ true → every (every q) ts ≡ true → every (every q) (prepended x ts) ≡ true
+unfolding every prepended
 every-before q x [] e f = rw e
 every-before q x (t ∷ ts) e f = rw e f
 
@@ -29,7 +33,7 @@ unfolding cutAt
 cut-clean cuts [] = unfold every in refl
 cut-clean cuts (x ∷ xs) = go (cuts x) refl (cut-clean cuts xs)
   where
-    go : (b : Bool) → cuts x ≡ b → every (every (λ b. not (cuts b))) (cutAt cuts xs) ≡ true → every (every (λ b. not (cuts b))) (pick b ([] ∷ cutAt cuts xs) (before x (cutAt cuts xs))) ≡ true
+    go : (b : Bool) → cuts x ≡ b → every (every (λ b. not (cuts b))) (cutAt cuts xs) ≡ true → every (every (λ b. not (cuts b))) (pick b ([] ∷ cutAt cuts xs) (prepended x (cutAt cuts xs))) ≡ true
     go true t e = unfold pick every in e
     go false t e = unfold pick in (every-before (λ b. not (cuts b)) x (cutAt cuts xs) (rw t) e)
 
@@ -38,7 +42,7 @@ unfolding cutAt every
 cut-keeps q cuts [] h = refl
 cut-keeps q cuts (x ∷ xs) h = go (cuts x) (and-left (q x) (every q xs) h) (cut-keeps q cuts xs (and-right (q x) (every q xs) h))
   where
-    go : (b : Bool) → q x ≡ true → every (every q) (cutAt cuts xs) ≡ true → every (every q) (pick b ([] ∷ cutAt cuts xs) (before x (cutAt cuts xs))) ≡ true
+    go : (b : Bool) → q x ≡ true → every (every q) (cutAt cuts xs) ≡ true → every (every q) (pick b ([] ∷ cutAt cuts xs) (prepended x (cutAt cuts xs))) ≡ true
     go true t e = unfold pick every in e
     go false t e = unfold pick in (every-before q x (cutAt cuts xs) t e)
 

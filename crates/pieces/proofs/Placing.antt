@@ -9,7 +9,7 @@ use lib.ListN.{length, drop, length-drop, length-append}
 use lib.Seq.{drop-drop, take-at, drop-at}
 use Rattle.ascii.specs.Bytes.{pick, isWhite}
 use Rattle.ascii.specs.Reading.{isEmpty, runOf, past}
-use Rattle.ascii.specs.Texts.{partOf, before, cutAt}
+use Rattle.ascii.specs.Texts.{partOf, prepended, cutAt}
 use Rattle.ascii.proofs.Texts.{part-in}
 use Rattle.ascii.proofs.Suffixes.{Suffix, suffix-trans, suffix-past}
 use Rattle.pieces.specs.Pieces.{words, piecesOf, isFor, furtherWords, lastFor, entryOf}
@@ -30,8 +30,8 @@ data AllPlaced (s : List ℕ) : ℕ → List (List ℕ) → Type 0 where
   none-left : {at : ℕ} → AllPlaced s at []
   one-more : {at : ℕ} {p : List ℕ} {ps : List (List ℕ)} → Placed s at p → AllPlaced s (at + length p + 1) ps → AllPlaced s at (p ∷ ps)
 
-longer : (s : List ℕ) (at x : ℕ) (ps : List (List ℕ)) → drop at s ≡ x ∷ drop (at + 1) s → at < length s → AllPlaced s (at + 1) ps → AllPlaced s at (before x ps)
-unfolding before
+longer : (s : List ℕ) (at x : ℕ) (ps : List (List ℕ)) → drop at s ≡ x ∷ drop (at + 1) s → at < length s → AllPlaced s (at + 1) ps → AllPlaced s at (prepended x ps)
+unfolding prepended
 longer s at x [] e h t = one-more {at = at} {p = x ∷ []} (record { behind = drop (at + 1) s; is = e; within = omega arith }) none-left
 longer s at x (p ∷ ps) e h (one-more st t) =
     let q : at + 1 + length p + 1 ≡ at + length (x ∷ p) + 1 = omega arith in
@@ -52,7 +52,7 @@ all-placed ends s at (x ∷ xs) e h =
     let g : at < length s = omega (arith, ap length e, length-drop at s) in
     go (ends x) (e ∙ ap (λ (l : List ℕ). x ∷ l) (sym d)) g (all-placed ends s (at + 1) xs d (omega arith))
   where
-    go : (b : Bool) → drop at s ≡ x ∷ drop (at + 1) s → at < length s → AllPlaced s (at + 1) (cutAt ends xs) → AllPlaced s at (pick b ([] ∷ cutAt ends xs) (before x (cutAt ends xs)))
+    go : (b : Bool) → drop at s ≡ x ∷ drop (at + 1) s → at < length s → AllPlaced s (at + 1) (cutAt ends xs) → AllPlaced s at (pick b ([] ∷ cutAt ends xs) (prepended x (cutAt ends xs)))
     go true d g t = unfold pick in (cut-here s at (cutAt ends xs) g t)
     go false d g t = unfold pick in (longer s at x (cutAt ends xs) d g t)
 

@@ -2,11 +2,8 @@
 use Prim.Native.Nat.{ℕ, _<_}
 use mathlib.Core.Path.{_≡_}
 use mathlib.Core.List.{List, _∷_, _++_}
-use mathlib.Core.Bool.{Bool, not, _&&_}
+use mathlib.Core.Bool.{Bool}
 use lib.ListN.{length}
-use Rattle.ascii.specs.Bytes.{isWhite}
-use Rattle.ascii.specs.Reading.{isEmpty}
-use Rattle.ascii.specs.Texts.{every}
 use Rattle.pieces.specs.Pieces.{piecesOf}
 
 -- "both attributes have the same pieces with the same words, but one piece, with a feature and at least one word after it, has one word more, anywhere after the feature":
@@ -23,7 +20,3 @@ pub record OneWordMore (ends : ℕ → Bool) (s t : List ℕ) : Type 0 where
   pub word : List ℕ
   pub first : piecesOf ends s ≡ earlier ++ ((feature ∷ (front ++ back)) ∷ later)
   pub second : piecesOf ends t ≡ earlier ++ ((feature ∷ (front ++ (word ∷ back))) ∷ later)
-
--- a text that can be a word: of at least one byte, none of them white and none that ends a piece
-unfoldable pub isWord : (ℕ → Bool) → List ℕ → Bool
-isWord ends w = not (isEmpty w) && every (λ b. not (isWhite b)) w && every (λ b. not (ends b)) w

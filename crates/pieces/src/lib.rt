@@ -135,7 +135,7 @@ pub fn meaning(w: &[u8]) -> MeaningRange
     allowlists::source_meaning(w)
 }
 
-// Whether a list of one word admits an origin; it is the self-origin, it is the src-origin.
+// Whether a list of one word admits an origin; `is_self`: it is the self-origin; `is_src`: it is the src-origin.
 fn word_admits(w: &[u8], is_self: bool, is_src: bool, t: &[u8], o: OriginRange) -> bool
     ensures { λ r. ⌜ r ≡ meaningAdmits (wordMeaning (now (w .entry))) «is_self» «is_src» (originIn (now (t .entry)) o) ⌝ }
 {
@@ -161,7 +161,7 @@ fn words_admit(s: &[u8], is_self: bool, is_src: bool, t: &[u8], o: OriginRange) 
     }
 }
 
-// Whether an entry's list admits an origin; it is the self-origin, it is the src-origin.
+// Whether an entry's list admits an origin; `is_self`: it is the self-origin; `is_src`: it is the src-origin.
 pub fn entry_admits(
     s: &[u8],
     e: TextRange,

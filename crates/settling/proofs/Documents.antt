@@ -28,7 +28,7 @@ use Rattle.declarations.proofs.Laws.Lone.{ignored, counted}
 use Rattle.declarations.proofs.Written.{no-src}
 use Rattle.settled.specs.Settled.{entryBytes, headBytes, word, Entry, entryIn, marked, entryDeclares, expressionsFrom, declaredIn}
 use Rattle.settled.proofs.Laws.{declared-by, declared-past, entry-marked, marked-none, marked-all, marked-list, marked-self}
-use Rattle.settling.specs.Writing.{expressionsBytes, valueSources, markOf, entryText, withEntry, Document, withValue, withMember, emptyDocument, documentOf, settledBytes}
+use Rattle.settling.specs.Writing.{expressionsBytes, valueSources, markOf, entryText, withEntry, SettledDocument, withValue, withMember, emptyDocument, documentOf, settledBytes}
 use Rattle.settling.proofs.Writes.{list-back}
 
 -- entries with the same bytes
@@ -124,11 +124,11 @@ value-marked (one x) = rw (value-one x) (go (loneDeclares (itemMeaning x)) (lone
 value-marked (many xs) = rw (value-many xs) (items-marked xs)
 
 -- a document shows a value for a feature, if there is one, whatever follows it
-record Shows (x : Document) (n : ℕ) (v : Option Value) : Type 0 where
+record Shows (x : SettledDocument) (n : ℕ) (v : Option Value) : Type 0 where
   long : length (x .head) ≡ headBytes
   says : (y : List ℕ) → entryDeclares (entryIn (x .head) (entryBytes * n)) (x .body ++ y) ≡ lastDeclares (some v)
 
-zero-shows : (x : Document) (n : ℕ) → length (x .head) ≡ headBytes → getD (x .head) (entryBytes * n) 0 ≡ 0 → Shows x n none
+zero-shows : (x : SettledDocument) (n : ℕ) → length (x .head) ≡ headBytes → getD (x .head) (entryBytes * n) 0 ≡ 0 → Shows x n none
 zero-shows x n h z =
     record {
       long = h;
@@ -138,7 +138,7 @@ zero-shows x n h z =
 empty-shows : (n : ℕ) → n < featureCount → Shows emptyDocument n none
 empty-shows n h = zero-shows emptyDocument n (length-replicate {A = ℕ} headBytes 0) (getD-replicate {A = ℕ} headBytes (entryBytes * n) 0 0 (omega arith))
 
-module _ (x : Document) (n : ℕ) (v : Option Value) (h : n < featureCount) (s : Shows x n v) (m : Plain) where
+module _ (x : SettledDocument) (n : ℕ) (v : Option Value) (h : n < featureCount) (s : Shows x n v) (m : Plain) where
   entry : List ℕ
   entry = entryText (markOf (valueDeclares (m .value))) (length (x .body)) (length (valueSources (m .value)))
 
@@ -190,21 +190,21 @@ module _ (x : Document) (n : ℕ) (v : Option Value) (h : n < featureCount) (s :
           by true u = let z : n ≡ k = eqb-true n k u in rw (← z) (here (e ∙ ap some (sym z)))
           by false u = there k e (eqb-false n k u)
 
-members-show : (n : ℕ) → n < featureCount → (ms : List Plain) (x : Document) (v : Option Value) → Shows x n v → Shows (into withMember x ms) n (into (later (nameOf n)) v ms)
+members-show : (n : ℕ) → n < featureCount → (ms : List Plain) (x : SettledDocument) (v : Option Value) → Shows x n v → Shows (into withMember x ms) n (into (later (nameOf n)) v ms)
 members-show n h [] x v s = rw (into-none withMember x, into-none (later (nameOf n)) v) s
 members-show n h (m ∷ ms) x v s =
     rw (into-first withMember x m ms, into-first (later (nameOf n)) v m ms)
     (members-show n h ms (withMember x m) (later (nameOf n) v m) (member-shows x n v h s m))
 
 -- a header's document says what the header declares
-record Says (x : Document) (s : List ℕ) (n : ℕ) : Type 0 where
+record Says (x : SettledDocument) (s : List ℕ) (n : ℕ) : Type 0 where
   long : length (x .head) ≡ headBytes
   says : (y : List ℕ) → entryDeclares (entryIn (x .head) (entryBytes * n)) (x .body ++ y) ≡ declares s n
 
 document-says : (s : List ℕ) (n : ℕ) → n < featureCount → Says (documentOf (members s)) s n
 document-says s n h = go (members s) refl
   where
-    shows : (x : Document) (v : Option Value) → lastValueIn (nameOf n) (members s) ≡ some v → Shows x n v → Says x s n
+    shows : (x : SettledDocument) (v : Option Value) → lastValueIn (nameOf n) (members s) ≡ some v → Shows x n v → Says x s n
     shows x v e w = record { long = w .long; says = λ y. w .says y ∙ (ap lastDeclares (sym e) ∙ sym (declares-last s n)) }
 
     go : (d : Option (List Plain)) → members s ≡ d → Says (documentOf d) s n
@@ -221,7 +221,7 @@ pub settled-says : (s y : List ℕ) (n : ℕ) → declaredIn (settledBytes s ++ 
 unfolding settledBytes
 settled-says s y n = go (ltb n featureCount) refl
   where
-    x : Document
+    x : SettledDocument
     x = documentOf (members s)
 
     go : (b : Bool) → ltb n featureCount ≡ b → declaredIn ((x .head ++ x .body) ++ y) n ≡ declares s n

@@ -29,7 +29,7 @@ use Rattle.dictionaries.proofs.Bytes.{itemsBytes, next-bytes}
 use Rattle.declarations.specs.Declarations.{valueDeclares, isMalformed}
 use Rattle.declarations.proofs.Laws.{malformed-is}
 use Rattle.settled.specs.Settled.{entryBytes, headBytes}
-use Rattle.settling.specs.Writing.{expressionsBytes, valueSources, markOf, entryText, withEntry, Document, withValue, withMember, emptyDocument, documentOf, settledBytes}
+use Rattle.settling.specs.Writing.{expressionsBytes, valueSources, markOf, entryText, withEntry, SettledDocument, withValue, withMember, emptyDocument, documentOf, settledBytes}
 use Rattle.settling.specs.Promises.{IsSettledIn, IsSettled, answerOf, settledAnswer}
 use Rattle.settling.specs.Steps.{Wrote, ValuePut, Holds, HasRoom, Settles, Cleared, MembersSettled}
 use Rattle.settling.specs.declared.Kept.{Kept}
@@ -86,7 +86,7 @@ module _ (v : Value) (l : List ℕ) (w n : ℕ) (p : HasRoom v l w) (h : n < fea
     entry-put : Wrote (take headBytes l ++ b1) (entryBytes * n) (entryText (r .mark) w (r .count)) l2 q
     entry-put = rw put-back at e
 
-    feature-holds : (x : Document) (base : List ℕ) → Holds x base l w → Holds (withValue x (some n) v) base l2 (r .to)
+    feature-holds : (x : SettledDocument) (base : List ℕ) → Holds x base l w → Holds (withValue x (some n) v) base l2 (r .to)
     unfolding withValue
     feature-holds x base k =
         let t = expressionsBytes (valueSources v) in
@@ -156,7 +156,7 @@ module _ (l m : List ℕ) (c : Cleared l m) where
 
 -- members so far: the run begins with their document, and the others are left
 pub record Going (s base : List ℕ) (c : ℕ) (run : List ℕ) (w : ℕ) : Type 0 where
-  pub document : Document
+  pub document : SettledDocument
   pub holds : Holds document base run w
   pub left : foldMembers withMember document (membersFrom s c) ≡ foldMembers withMember emptyDocument (members s)
   pub within : c ≤ length s
@@ -165,7 +165,7 @@ pub record Going (s base : List ℕ) (c : ℕ) (run : List ℕ) (w : ℕ) : Type
 pub going-start : (s l : List ℕ) → Holds emptyDocument l l 0 → Going s l 0 l 0
 going-start s l h = record { document = emptyDocument; holds = h; left = refl; within = omega arith; small = omega arith }
 
-all-folded : (d : Option (List Plain)) (x : Document) → some x ≡ foldMembers withMember emptyDocument d → x ≡ documentOf d
+all-folded : (d : Option (List Plain)) (x : SettledDocument) → some x ≡ foldMembers withMember emptyDocument d → x ≡ documentOf d
 unfolding documentOf
 all-folded (some ms) x e = let f : some x ≡ some (into withMember emptyDocument ms) = e ∙ fold-members withMember emptyDocument ms in cc
 all-folded none x e = let f : some x ≡ none = e ∙ fold-malformed withMember emptyDocument in clash cc
@@ -245,7 +245,7 @@ module _ (s l : List ℕ) where
   answer-long h = record { which = rw (lt-ltb textBytes (length s) h); too-long = λ e. refl; too-small = λ e. refl; header = λ f e. clash cc }
 
   module _ (h : length s ≤ textBytes) where
-    pub answer-small : length l < headBytes + length s → IsSettled s l l settled.Small
+    pub answer-small : length l < headBytes + length s → IsSettled s l l settled.NoRoom
     unfolding pick
     answer-small g = record { which = rw (le-ltb textBytes (length s) h, lt-ltb (length l) (headBytes + length s) g); too-long = λ e. refl; too-small = λ e. refl; header = λ f e. clash cc }
 

@@ -32,7 +32,7 @@ pub data Answer : Type 0 where
 
 abbrev pub answerOf : Settled → Answer
 answerOf settled.TooLong = Answer.tooLong
-answerOf settled.Small = Answer.small
+answerOf settled.NoRoom = Answer.small
 answerOf (settled.Header f) = Answer.header
 
 abbrev pub settledAnswer : List ℕ → ℕ → Answer
@@ -43,5 +43,5 @@ settledAnswer s n =
 pub record IsSettled (s before after : List ℕ) (r : Settled) : Type 0 where
   pub which : answerOf r ≡ settledAnswer s (length before)
   pub too-long : r ≡ settled.TooLong → after ≡ before
-  pub too-small : r ≡ settled.Small → after ≡ before
+  pub too-small : r ≡ settled.NoRoom → after ≡ before
   pub header : (f : SettledHeader) → r ≡ settled.Header f → IsSettledIn s before after f

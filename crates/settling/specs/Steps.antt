@@ -14,7 +14,7 @@ use Rattle.dictionaries.specs.Dictionaries.{Value, members}
 use Rattle.allowlists.specs.Allowlists.{Meaning, isStar, isSelf, withSource, hasStar, hasSelf, sourcesOf}
 use Rattle.declarations.specs.Declarations.{itemMeaning, valueDeclares}
 use Rattle.settled.specs.Settled.{headBytes}
-use Rattle.settling.specs.Writing.{hostText, portValue, expressionsBytes, valueSources, markOf, Document, withValue, documentOf}
+use Rattle.settling.specs.Writing.{hostText, portValue, expressionsBytes, valueSources, markOf, SettledDocument, withValue, documentOf}
 use Rattle.settling.specs.declared.Listed.{Listed}
 use Rattle.settling.specs.declared.Kept.{Kept}
 
@@ -61,7 +61,7 @@ pub record ValuePut (v : Value) (before : List ℕ) (at : ℕ) (after : List ℕ
   pub mark : r .mark ≡ markOf (valueDeclares v)
 
 -- a run begins with a document, and from there on it has the bytes of another
-pub record Holds (x : Document) (base run : List ℕ) (w : ℕ) : Type 0 where
+pub record Holds (x : SettledDocument) (base run : List ℕ) (w : ℕ) : Type 0 where
   pub is : run ≡ x .head ++ (x .body ++ drop (headBytes + w) base)
   pub head : length (x .head) ≡ headBytes
   pub body : length (x .body) ≡ w
@@ -74,7 +74,7 @@ pub record HasRoom (v : Value) (run : List ℕ) (w : ℕ) : Type 0 where
 
 -- the document that the run begins with has a value more
 pub record Settles (o : Option ℕ) (v : Value) (before : List ℕ) (w : ℕ) (after : List ℕ) (r : ℕ) : Type 0 where
-  pub holds : (x : Document) (base : List ℕ) → Holds x base before w → Holds (withValue x o v) base after r
+  pub holds : (x : SettledDocument) (base : List ℕ) → Holds x base before w → Holds (withValue x o v) base after r
   pub long : length after ≡ length before
   pub upto : r ≤ w + length (expressionsBytes (valueSources v))
 

@@ -81,12 +81,12 @@ unfoldable pub withEntry : List ℕ → ℕ → List ℕ → List ℕ
 withEntry head n t = take (entryBytes * n) head ++ (t ++ drop (entryBytes * n + entryBytes) head)
 
 -- a head and the bytes past it
-pub record Document : Type 0 where
+pub record SettledDocument : Type 0 where
   pub head : List ℕ
   pub body : List ℕ
 
 -- a feature's value: its expressions stand past those so far, and its entry tells of them; a key that is no feature's name counts for nothing
-unfoldable pub withValue : Document → Option ℕ → Value → Document
+unfoldable pub withValue : SettledDocument → Option ℕ → Value → SettledDocument
 withValue d none v = d
 withValue d (some n) v =
     record {
@@ -95,14 +95,14 @@ withValue d (some n) v =
     }
 
 -- "A repeated key keeps only its last value": no entry tells any longer of a list that a later member replaces
-abbrev pub withMember : Document → Plain → Document
+abbrev pub withMember : SettledDocument → Plain → SettledDocument
 withMember d m = withValue d (featureOf (m .key)) (m .value)
 
-abbrev pub emptyDocument : Document
+abbrev pub emptyDocument : SettledDocument
 emptyDocument = record { head = replicate headBytes 0; body = [] }
 
 -- "A malformed header declares nothing"
-unfoldable pub documentOf : Option (List Plain) → Document
+unfoldable pub documentOf : Option (List Plain) → SettledDocument
 documentOf (some ms) = into withMember emptyDocument ms
 documentOf none = emptyDocument
 

@@ -44,7 +44,7 @@ pub enum Settled {
     // the header is over the limit
     TooLong,
     // the run is shorter than the head and the header together
-    Small,
+    NoRoom,
 }
 
 // Expressions that were written: where they end, how many, and whether their items had `*` and `self` among them.
@@ -391,7 +391,7 @@ pub fn settle(s: &[u8], run: &mut [u8]) -> Settled
         return Settled::TooLong;
     }
     if run.len() < HEAD + s.len() {
-        return Settled::Small;
+        return Settled::NoRoom;
     }
     clear(run);
     if dictionaries::is_dictionary(s) {

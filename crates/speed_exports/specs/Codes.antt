@@ -31,7 +31,7 @@ tidyCode (tidy.Refused r) = beyond + refusalNumber r
 abbrev pub settledCode : Settled → ℕ
 settledCode (settled.Header f) = pick (f .malformed) beyond (f .to)
 settledCode settled.TooLong = 2 * beyond
-settledCode settled.Small = 4 * beyond
+settledCode settled.NoRoom = 4 * beyond
 
 abbrev pub admissionCode : Admission → ℕ
 admissionCode admission.NoList = 0

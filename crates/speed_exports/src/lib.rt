@@ -38,15 +38,9 @@ fn settled_code(a: Settled) -> u64
     ensures { λ r. ⌜ r ≡ settledCode a ⌝ }
 {
     match a {
-        Settled::Header(f) => {
-            if f.malformed {
-                BEYOND
-            } else {
-                f.to as u64
-            }
-        }
+        Settled::Header(f) => { if f.malformed { BEYOND } else { f.to as u64 } }
         Settled::TooLong => 2 * BEYOND,
-        Settled::Small => 4 * BEYOND,
+        Settled::NoRoom => 4 * BEYOND,
     }
 }
 

@@ -67,7 +67,7 @@ module _ (s run before after : List ℕ) (r : Settled) (g : IsSettled s before a
       record { answer = rw t; bytes = refl }
 
   -- there is room for every header
-  pub never-small : length before ≡ headBytes + textBytes → (z : List ℕ) (x : TidyAnswer) → r ≡ settled.Small → IsTidied s run z x
+  pub never-small : length before ≡ headBytes + textBytes → (z : List ℕ) (x : TidyAnswer) → r ≡ settled.NoRoom → IsTidied s run z x
   never-small h z x k =
       let t = small-tests (ltb textBytes (length s)) (ltb (length before) (headBytes + length s)) (rw k at (g .which)) in
       absurd (omega (arith, ltb-false textBytes (length s) (t .0), ltb-true (length before) (headBytes + length s) (t .1)))

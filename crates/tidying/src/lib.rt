@@ -307,7 +307,7 @@ pub fn tidy(s: &[u8], out: &mut [u8]) -> TidyAnswer
     let mut d = [0u8; HEAD + TEXT_BYTES];
     match settling::settle(s, &mut d) {
         Settled::TooLong => TidyAnswer::Refused(Refusal::TooLong), // the input
-        Settled::Small => TidyAnswer::Refused(Refusal::Small), // never: there is room for every header
+        Settled::NoRoom => TidyAnswer::Refused(Refusal::Small), // never: there is room for every header
         Settled::Header(f) => {
             if f.malformed {
                 return TidyAnswer::Refused(Refusal::NotADictionary);
