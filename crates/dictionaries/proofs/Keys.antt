@@ -14,22 +14,11 @@ use Rattle.ascii.specs.Reading.Parsed.{parsed, malformed}
 use Rattle.ascii.specs.Reading.Step.{more, done, fail}
 use Rattle.ascii.proofs.Reading.{key-starts}
 use Rattle.items.specs.Items.{keyOf}
+use Rattle.items.proofs.Laws.{key-some}
 use Rattle.dictionaries.specs.Dictionaries.{Value, Placed, Member, Plain, assignedOf, memberOf, partedOf, dictTurn, readAll, dataOf, plain, plains, plainly, members}
 use Rattle.dictionaries.specs.Lookup.{into, later, lastValueIn}
 
--- a key, and so a member's, is not empty
-key-some : (l k m : List ℕ) → keyOf l ≡ parsed k m → sameBytes k [] ≡ false
-unfolding keyOf headIs
-key-some [] k m e = clash (unfold headOf pick in cc)
-key-some (x ∷ xs) k m e = go (isKeyStart x) refl (unfold headOf in e)
-  where
-    go : (b : Bool) → isKeyStart x ≡ b → pick b (parsed (runOf isKeyByte (x ∷ xs)) (past isKeyByte (x ∷ xs))) malformed ≡ parsed k m → sameBytes k [] ≡ false
-    go true t f =
-        let u : runOf isKeyByte (x ∷ xs) ≡ k = unfold pick in cc in
-        let v : runOf isKeyByte (x ∷ xs) ≡ x ∷ runOf isKeyByte xs = unfold runOf pick in (rw (key-starts x t) refl) in
-        rw (← u, v) (unfold sameBy in refl)
-    go false t f = clash (unfold pick in cc)
-
+-- a member's key is not empty
 member-some : (l : List ℕ) (x : Member) (m : List ℕ) → memberOf l ≡ parsed x m → sameBytes (x .key) [] ≡ false
 unfolding memberOf
 member-some l x m e = go (keyOf l) refl e

@@ -24,7 +24,7 @@ use Rattle.dictionaries.specs.Members.{membersFrom, memberIn, nextAt, IsNext, f
 use Rattle.dictionaries.specs.declared.MemberAt.{MemberAt}
 use Rattle.dictionaries.specs.declared.NextMember.{NextMember}
 use Rattle.dictionaries.specs.declared.NextMember.the-variants as next
-use Rattle.dictionaries.proofs.Laws.{fold-member, fold-members-end, fold-members-malformed, fold-members, fold-malformed, next-member-high, none-is}
+use Rattle.dictionaries.proofs.Laws.{fold-member, fold-members-end, fold-members-malformed, fold-members, fold-malformed, next-member-high, some-is, none-is}
 use Rattle.dictionaries.proofs.Bytes.{itemsBytes, next-bytes}
 use Rattle.declarations.specs.Declarations.{valueDeclares, isMalformed}
 use Rattle.declarations.proofs.Laws.{malformed-is}
@@ -235,7 +235,7 @@ told-members s b e t = sym e ∙ t
 
 no-members : (d : Option (List Plain)) → isSome d ≡ false → documentOf d ≡ emptyDocument
 unfolding documentOf
-no-members (some ms) e = clash (unfold isSome in cc)
+no-members (some ms) e = let f : isSome (some ms) ≡ true = some-is ms in clash cc
 no-members none e = refl
 
 -- the answers
