@@ -1,6 +1,7 @@
 -- Claim 7: each document is what its load makes of its container, so its policy is the one that the calls and answers tell, feature by feature. Assumes nothing.
 use mathlib.Core.Path.{_≡_, refl, sym, ap, subst, _∙_}
-use Prim.Native.Nat.{ℕ, _<_}
+use Prim.Native.Nat.{ℕ, suc, _+_, _≤_, _<_}
+use native.Mathlib.Omega.{arith}
 use mathlib.Core.Bool.{Bool, true, false}
 use mathlib.Core.Option.{Option, some, none}
 use mathlib.Core.List.{List, [], _∷_}
@@ -21,12 +22,12 @@ use Rattle.decisions.specs.Decisions.{Decision, inheritedTop}
 use Rattle.decisions.specs.Masks.{maskOf, decisionAt}
 use Rattle.decisions.specs.Policies.{Policy, Frame, questionIn, inheritedIn, enabledMask, forecast}
 use Rattle.decisions.proofs.Laws.{mask-at, mask-same, value-parts, question-parts, inherited-parts, enabled-parts, forecast-parts}
-use Rattle.document_model.specs.Model.{Text, isGoodOrigin, arrivesAt, askedAt, orFresh, Identity, Document, declaredBy, policyOf, frameDeclared, frameOf, Table, find, Call, question, enabledFeatures, forecastOf, Answer, refused, decision, features, topIdentity, framedIdentity, topDocument, framedDocument, textsFit, fittingOutcome, outcome, answerTo, tableAfter}
-use Rattle.document_model.specs.History.{Event, history}
+use Rattle.document_model.specs.Model.{Text, isGoodOrigin, arrivesAt, askedAt, orFresh, Identity, Document, declaredBy, policyOf, frameDeclared, frameOf, Table, newTable, find, Call, topLoad, framedLoad, question, enabledFeatures, forecastOf, Answer, refused, loaded, decision, features, topIdentity, framedIdentity, topDocument, framedDocument, textsFit, fittingOutcome, outcome, answerTo, tableAfter}
+use Rattle.document_model.specs.History.{Event, Gave, gave-top, gave-framed, Happened, last, earlier, history}
 use Rattle.document_model.specs.Claims.{MarkedIn, frameIn, topPolicy, framedPolicy, PolicyIn, of-top, of-frame, AskedAt, at-own, at-fresh, at-tuple}
 use Rattle.document_model.proofs.Values.{values-at}
 use Rattle.document_model.proofs.Tables.{In, finds}
-use Rattle.document_model.proofs.Effects.{Ends, unless-ends, with-ends, ends, Made, made-top, made-framed, made}
+use Rattle.document_model.proofs.Effects.{Ends, unless-ends, with-ends, ends, Effect, nothing-else, top-loaded, frame-loaded, all-removed, history-induction, Made, made-top, made-framed, made}
 use Rattle.document_model.proofs.Sandboxed.{marked-told, told-marked}
 
 -- ---- policies that are the same for each of the seventeen
@@ -199,3 +200,65 @@ forecast-as-defined cs c a m e =
     let z = settled cs (w .doc .identity .above) (w .doc) (w .is-in) refl in
     (z .policy, subst (λ (k : ℕ). PolicyIn (history cs) k (z .policy)) (sym (w .is)) (z .told), (w .doc .identity .sandboxed, subst (λ (k : ℕ). MarkedIn (history cs) k (w .doc .identity .sandboxed)) (sym (w .is)) (marked cs (w .doc) (w .is-in)),
     w .answer ∙ forecast-same (policyOf (w .doc)) (z .policy) (z .same) (frameOf (w .doc .identity) a) (frameIn (z .policy) (w .doc .identity .sandboxed) a) refl (frame-same (w .doc .identity) a (z .policy .own) (z .same .own))))
+
+-- ---- a document has one policy
+
+-- serials below a number were given, each by one call
+record Once (es : List Event) (n : ℕ) : Type 0 where
+  below : {c : Call} {a : Answer} {s : ℕ} → Happened c a es → Gave c a s → s < n
+  one : {c d : Call} {a b : Answer} {s : ℕ} → Happened c a es → Gave c a s → Happened d b es → Gave d b s → c ≡ d
+
+once-more : {es : List Event} (n m : ℕ) (c : Call) (a : Answer) → Once es n → n ≤ m → ((s : ℕ) → Gave c a s → (n ≤ s) × (s < m)) → Once (record { call = c; answer = a } ∷ es) m
+once-more {es} n m c a h l new = record { below = below-now; one = one-now }
+  where
+    below-now : {k : Call} {b : Answer} {s : ℕ} → Happened k b (record { call = c; answer = a } ∷ es) → Gave k b s → s < m
+    below-now last g = new _ g .1
+    below-now (earlier p) g = omega (arith, h .below p g)
+
+    one-now : {k d : Call} {b e : Answer} {s : ℕ} → Happened k b (record { call = c; answer = a } ∷ es) → Gave k b s → Happened d e (record { call = c; answer = a } ∷ es) → Gave d e s → k ≡ d
+    one-now last g last k = refl
+    one-now last g (earlier q) k = absurd (omega (arith, new _ g .0, h .below q k))
+    one-now (earlier p) g last k = absurd (omega (arith, new _ k .0, h .below p g))
+    one-now (earlier p) g (earlier q) k = h .one p g q k
+
+abbrev OnceIn : List Event → Table → Type 0
+OnceIn es t = Once es (t .next)
+
+next-top : (n : ℕ) (h o : Text) (m : Bool) (s : ℕ) → Gave (topLoad h o) (loaded n m) s → (n ≤ s) × (s < suc n)
+next-top n h o m s gave-top = (omega arith, omega arith)
+
+next-framed : (n c : ℕ) (h o : Text) (a : Attributes) (m : Bool) (s : ℕ) → Gave (framedLoad c h o a) (loaded n m) s → (n ≤ s) × (s < suc n)
+next-framed n c h o a m s gave-framed = (omega arith, omega arith)
+
+effect-once : (es : List Event) (t u : Table) (c : Call) (a : Answer) → OnceIn es t → Effect t c a u → OnceIn (record { call = c; answer = a } ∷ es) u
+effect-once es t u c a h (nothing-else g v l r) = once-more (t .next) (t .next) c a h (omega arith) (λ s z. absurd (g s z))
+effect-once es t u c a h (top-loaded hd o m p q) = once-more (t .next) (suc (t .next)) (topLoad hd o) (loaded (t .next) m) h (omega arith) (next-top (t .next) hd o m)
+effect-once es t u c a h (frame-loaded k hd o b m d i e p q) = once-more (t .next) (suc (t .next)) (framedLoad k hd o b) (loaded (t .next) m) h (omega arith) (next-framed (t .next) k hd o b m)
+effect-once es t u c a h (all-removed s) = once-more (t .next) (t .next) c a h (omega arith) (λ s z. elim z [ ])
+
+once : (cs : List Call) → Once (history cs) (tableAfter cs .next)
+unfolding history tableAfter
+once cs = history-induction OnceIn effect-once cs newTable [] (record { below = λ p g. elim p [ ]; one = λ p g q k. elim p [ ] })
+
+one-mark : {es : List Event} {s : ℕ} (b c : Bool) → MarkedIn es s b → MarkedIn es s c → b ≡ c
+one-mark true c m n = sym (n .if-sandboxed (m .if-set refl))
+one-mark false true m n = m .if-sandboxed (n .if-set refl)
+one-mark false false m n = refl
+
+pub one-policy : (cs : List Call) {s : ℕ} {p q : Policy} → PolicyIn (history cs) s p → PolicyIn (history cs) s q → p ≡ q
+one-policy cs (of-top {h} {o} {s} x) (of-top {h = h′} {o = o′} y) =
+    let e = once cs .one x gave-top y gave-top in
+    let i : h ≡ h′ = cc in
+    let j : o ≡ o′ = cc in
+    ap (λ (k : Text). topPolicy s k o) i ∙ ap (λ (k : Text). topPolicy s h′ k) j
+one-policy cs (of-top x) (of-frame y w m) = let e = once cs .one x gave-top y gave-framed in clash cc
+one-policy cs (of-frame x v n) (of-top y) = let e = once cs .one x gave-framed y gave-top in clash cc
+one-policy cs (of-frame {c} {h} {o} {a} {s} {p = p} {mark = b} x v n) (of-frame {c = c′} {h = h′} {o = o′} {a = a′} {p = p′} {mark = b′} y w k) =
+    let e = once cs .one x gave-framed y gave-framed in
+    let u : c ≡ c′ = cc in
+    let i : h ≡ h′ = cc in
+    let j : o ≡ o′ = cc in
+    let f : a ≡ a′ = cc in
+    let g : p ≡ p′ = one-policy cs v (subst (λ (z : ℕ). PolicyIn (history cs) z p′) (sym u) w) in
+    let r : b ≡ b′ = one-mark b b′ n (subst (λ (z : ℕ). MarkedIn (history cs) z b′) (sym u) k) in
+    ap (λ (z : Policy). framedPolicy z b a s h o) g ∙ ap (λ (z : Bool). framedPolicy p′ z a s h o) r ∙ ap (λ (z : Attributes). framedPolicy p′ b′ z s h o) f ∙ ap (λ (z : Text). framedPolicy p′ b′ a′ s z o) i ∙ ap (λ (z : Text). framedPolicy p′ b′ a′ s h′ z) j

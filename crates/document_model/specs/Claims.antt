@@ -195,3 +195,5 @@ pub record AnswersAsDefined : Type 0 where
   -- "A *forecast* is what a frame would inherit at its declared origin"
   pub forecast-as-defined : (cs : List Call) (c : ℕ) (a : Attributes) (m : ℕ) → answerAfter cs (forecastOf c a) ≡ features m
       → (p : Policy) × PolicyIn (history cs) c p × ((mark : Bool) × MarkedIn (history cs) c mark × (m ≡ forecast p (frameIn p mark a)))
+  -- and there is one such policy
+  pub one-policy : (cs : List Call) (s : ℕ) (p q : Policy) → PolicyIn (history cs) s p → PolicyIn (history cs) s q → p ≡ q
