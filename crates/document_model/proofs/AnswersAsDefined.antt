@@ -1,9 +1,9 @@
 -- Claim 7: each document is what its load makes of its container, so its policy is the one that the calls and answers tell, feature by feature. Assumes nothing.
 use mathlib.Core.Path.{_≡_, refl, sym, ap, subst, _∙_}
-use Prim.Native.Nat.{ℕ, suc, _+_, _≤_, _<_}
+use Prim.Native.Nat.{ℕ, suc, _≤_, _<_}
 use native.Mathlib.Omega.{arith}
 use mathlib.Core.Bool.{Bool, true, false}
-use mathlib.Core.Option.{Option, some, none}
+use mathlib.Core.Option.{Option, none}
 use mathlib.Core.List.{List, [], _∷_}
 use lib.Dec.{ltb→lt}
 use lib.ListN.{getD}
@@ -22,12 +22,12 @@ use Rattle.decisions.specs.Decisions.{Decision, inheritedTop}
 use Rattle.decisions.specs.Masks.{maskOf, decisionAt}
 use Rattle.decisions.specs.Policies.{Policy, Frame, questionIn, inheritedIn, enabledMask, forecast}
 use Rattle.decisions.proofs.Laws.{mask-at, mask-same, value-parts, question-parts, inherited-parts, enabled-parts, forecast-parts}
-use Rattle.document_model.specs.Model.{Text, isGoodOrigin, arrivesAt, askedAt, orFresh, Identity, Document, declaredBy, policyOf, frameDeclared, frameOf, Table, newTable, find, Call, topLoad, framedLoad, question, enabledFeatures, forecastOf, Answer, refused, loaded, decision, features, topIdentity, framedIdentity, topDocument, framedDocument, textsFit, fittingOutcome, outcome, answerTo, tableAfter}
+use Rattle.document_model.specs.Model.{Text, isGoodOrigin, arrivesAt, askedAt, orFresh, Identity, Document, declaredBy, policyOf, frameDeclared, frameOf, Table, newTable, find, Call, topLoad, framedLoad, question, enabledFeatures, forecastOf, Answer, refused, loaded, decision, features, topIdentity, framedIdentity, topDocument, framedDocument, fittingOutcome, outcome, answerTo, tableAfter}
 use Rattle.document_model.specs.History.{Event, Gave, gave-top, gave-framed, Happened, last, earlier, history}
 use Rattle.document_model.specs.Claims.{MarkedIn, frameIn, topPolicy, framedPolicy, PolicyIn, of-top, of-frame, AskedAt, at-own, at-fresh, at-tuple}
 use Rattle.document_model.proofs.Values.{values-at}
 use Rattle.document_model.proofs.Tables.{In, finds}
-use Rattle.document_model.proofs.Effects.{Ends, unless-ends, with-ends, ends, Effect, nothing-else, top-loaded, frame-loaded, all-removed, history-induction, Made, made-top, made-framed, made}
+use Rattle.document_model.proofs.Effects.{unless-ends, with-ends, ends, Effect, nothing-else, top-loaded, frame-loaded, all-removed, history-induction, Made, made-top, made-framed, made}
 use Rattle.document_model.proofs.Sandboxed.{marked-told, told-marked}
 
 -- ---- policies that are the same for each of the seventeen
@@ -115,9 +115,12 @@ framed-settled es x d h o a w t e =
     let s = x .identity .serial in
     let q = framedPolicy (w .policy) (d .identity .sandboxed) a s h o in
     let arrives : arrivesAt (originOf o) (d .identity .origin) s ≡ arrivesAt (originOf o) (w .policy .own) s = ap (λ (z : Origin). arrivesAt (originOf o) z s) (w .same .own) in
-    record { policy = q; told = t;
+    record {
+      policy = q;
+      told = t;
       same = same-parts x _ _ (inheritedIn (policyOf d) (frameOf (d .identity) a) (arrivesAt (originOf o) (d .identity .origin) s)) h q (framed-parts x d h o a s e) arrives
-          (λ n l. inherited-same (policyOf d) (w .policy) (w .same) (frameOf (d .identity) a) (frameIn (w .policy) (d .identity .sandboxed) a) refl (frame-same (d .identity) a (w .policy .own) (w .same .own)) n l _ _ arrives) (λ n. refl) }
+          (λ n l. inherited-same (policyOf d) (w .policy) (w .same) (frameOf (d .identity) a) (frameIn (w .policy) (d .identity .sandboxed) a) refl (frame-same (d .identity) a (w .policy .own) (w .same .own)) n l _ _ arrives) (λ n. refl);
+    }
 
 settled : (cs : List Call) (l : List ℕ) (x : Document) → In x (tableAfter cs .docs) → x .identity .above ≡ l → Settled (history cs) x
 settled cs [] x m e = at-top (made cs x m)
@@ -197,9 +200,15 @@ pub forecast-as-defined : (cs : List Call) (c : ℕ) (a : Attributes) (m : ℕ) 
     (p : Policy) × PolicyIn (history cs) c p × ((mark : Bool) × MarkedIn (history cs) c mark × (m ≡ forecast p (frameIn p mark a)))
 forecast-as-defined cs c a m e =
     let w = forecast-shown (tableAfter cs) c a m e in
-    let z = settled cs (w .doc .identity .above) (w .doc) (w .is-in) refl in
-    (z .policy, subst (λ (k : ℕ). PolicyIn (history cs) k (z .policy)) (sym (w .is)) (z .told), (w .doc .identity .sandboxed, subst (λ (k : ℕ). MarkedIn (history cs) k (w .doc .identity .sandboxed)) (sym (w .is)) (marked cs (w .doc) (w .is-in)),
-    w .answer ∙ forecast-same (policyOf (w .doc)) (z .policy) (z .same) (frameOf (w .doc .identity) a) (frameIn (z .policy) (w .doc .identity .sandboxed) a) refl (frame-same (w .doc .identity) a (z .policy .own) (z .same .own))))
+    let z = settled cs (w .doc .identity .above) (w .doc) (w .is-in) refl in (
+      z .policy,
+      subst (λ (k : ℕ). PolicyIn (history cs) k (z .policy)) (sym (w .is)) (z .told),
+      (
+        w .doc .identity .sandboxed,
+        subst (λ (k : ℕ). MarkedIn (history cs) k (w .doc .identity .sandboxed)) (sym (w .is)) (marked cs (w .doc) (w .is-in)),
+        w .answer ∙ forecast-same (policyOf (w .doc)) (z .policy) (z .same) (frameOf (w .doc .identity) a) (frameIn (z .policy) (w .doc .identity .sandboxed) a) refl (frame-same (w .doc .identity) a (z .policy .own) (z .same .own)),
+      ),
+    )
 
 -- ---- a document has one policy
 
