@@ -1,8 +1,10 @@
 -- Tests and what follows of their answers. Assumes nothing.
 use mathlib.Core.Path.{_≡_, refl}
-use Prim.Native.Nat.{ℕ}
+use Prim.Native.Nat.{ℕ, _≤_, _<_}
+use native.Mathlib.Omega.{arith}
 use mathlib.Core.Bool.{Bool, true, false, not, _&&_, _||_}
-use lib.Dec.{T, eqb, eqb-refl}
+use lib.Dec.{T, eqb, ltb, eqb-refl}
+use borrow.Author.Tests.{ltb-true, ltb-false}
 use Rattle.ascii.proofs.Clash.{clash}
 
 pub is-true : (b : Bool) → T b → b ≡ true
@@ -63,3 +65,11 @@ not-or-true false n e z = clash cc
 pub either-way : {X : Type 0} (b c : Bool) → c ≡ b → (c ≡ true → X) → (c ≡ false → X) → X
 either-way true c e f g = f e
 either-way false c e f g = g e
+
+-- either number is the smaller
+pub order : {X : Type 0} (a b : ℕ) → (a < b → X) → (b ≤ a → X) → X
+order {X = X} a b f g = side (ltb a b) refl
+  where
+    side : (c : Bool) → ltb a b ≡ c → X
+    side true e = f (omega (arith, ltb-true))
+    side false e = g (omega (arith, ltb-false))

@@ -15,7 +15,8 @@ use Rattle.origins.specs.Origins.{OriginSaid, originOf}
 use Rattle.document_model.specs.Runs.{leftBy}
 use Rattle.containers.specs.Attributes.{Attributes}
 use Rattle.document_model.specs.Model.{Text, Identity, Document, Table, newTable, isAtOrBeneath, find, remaining, removedCount, Call, topLoad, framedLoad, unload, question, enabledFeatures, listing, forecastOf, Answer, refused, loaded, removed, Outcome, refuse, accept, refuseUnless, withDocument, textsFit, load, topIdentity, framedIdentity, topDocument, framedDocument, fittingOutcome, outcome, answerIn, tableIn, answerTo, tableLeft, tableAfter, answers, answersAfter}
-use Rattle.document_model.specs.History.{Event, Gave, Unloaded, Happened, last, earlier, eventsFrom, history, acceptedLoad, unloadAnswer, acceptedLoads, unloadSum}
+use Rattle.document_model.specs.History.{Event, Gave, gave-top, gave-framed, Unloaded, Happened, last, earlier, eventsFrom, history, acceptedLoad, unloadAnswer, acceptedLoads, unloadSum}
+use Rattle.document_model.proofs.Booleans.{order}
 use Rattle.document_model.proofs.TwoRuns.{left-append, answers-append}
 use Rattle.document_model.proofs.Tables.{In, in-left, in-push, in-remaining, remaining-in, container-stays, Finds, missing, hit, finds, count}
 
@@ -135,6 +136,33 @@ history-induction P f (c ∷ cs) t es h = history-induction P f cs (tableLeft c 
 pub counted : (cs : List Call) → Counted (history cs) (tableAfter cs)
 unfolding history tableAfter acceptedLoads unloadSum
 counted cs = history-induction Counted counts cs newTable [] (record { number = refl; serial = refl })
+
+-- an accepted load gave the serial
+pub record GivenIn (es : List Event) (s : ℕ) : Type 0 where
+  pub by : Call
+  pub answered : Answer
+  pub happened : Happened by answered es
+  pub gave : Gave by answered s
+
+given-later : {es : List Event} {s : ℕ} (e : Event) → GivenIn es s → GivenIn (e ∷ es) s
+given-later e g = record { by = g .by; answered = g .answered; happened = earlier (g .happened); gave = g .gave }
+
+unfoldable AllGiven : List Event → Table → Type 0
+AllGiven es t = (s : ℕ) → 1 ≤ s → s < t .next → GivenIn es s
+
+gives : (es : List Event) (t u : Table) (c : Call) (a : Answer) → AllGiven es t → Effect t c a u → AllGiven (record { call = c; answer = a } ∷ es) u
+unfolding AllGiven
+gives es t u c b h (nothing-else g v l r) = λ s p q. given-later _ (h s p q)
+gives es t u c b h (top-loaded hd o m p q) = λ s l k. order s (t .next) (λ j. given-later _ (h s l j))
+    (λ j. let e : s ≡ t .next = omega arith in rw e (record { by = topLoad hd o; answered = loaded (t .next) m; happened = last; gave = gave-top }))
+gives es t u c b h (frame-loaded n hd o a m d i e p q) = λ s l k. order s (t .next) (λ j. given-later _ (h s l j))
+    (λ j. let z : s ≡ t .next = omega arith in rw z (record { by = framedLoad n hd o a; answered = loaded (t .next) m; happened = last; gave = gave-framed }))
+gives es t u c b h (all-removed s) = λ k p q. given-later _ (h k p q)
+
+-- each serial below the next was given
+pub given-before : (cs : List Call) (s : ℕ) → 1 ≤ s → s < tableAfter cs .next → GivenIn (history cs) s
+unfolding history tableAfter AllGiven
+given-before cs = history-induction AllGiven gives cs newTable [] (λ s p q. absurd (omega arith))
 
 -- ---- a document is what its load, found among the calls, makes of its container
 

@@ -21,12 +21,12 @@ use Rattle.document_model.specs.Model.{Text, isGoodOrigin, isNull, isGoo
 use Rattle.document_model.specs.History.{Event, LoadedIn, BeneathIn, history}
 use Rattle.document_model.specs.Claims.{isAccepted}
 use Rattle.document_model.specs.Refusals.{Row, inputLong, badOrigin, badSrc, noFeature, notLoaded, sandboxed, full, spent, notDictionary, outputLong, small, place, refusalOf, Input, top-header, framed-header, framed-allow, framed-sandbox, forecast-allow, forecast-sandbox, Names, framed-names, unload-names, question-names, enabled-names, listing-names, forecast-names, IsLoad, is-top, is-framed, Holds, long, top-bad, top-empty, framed-bad, question-bad, framed-src, forecast-src, over-sixteen, closed, in-container, in-attribute, sixteen, all-given, short-run, First}
-use Rattle.document_model.proofs.Booleans.{and-no, not-either, not-or-true}
+use Rattle.document_model.proofs.Booleans.{and-no, not-either, not-or-true, order}
 use Rattle.document_model.proofs.OriginTexts.{good-not, is-null, not-good, not-null}
 use Rattle.document_model.proofs.Tables.{In, Finds, missing, hit, finds}
 use Rattle.document_model.proofs.Invariant.{reachable}
 use Rattle.document_model.proofs.Agreement.{agrees}
-use Rattle.document_model.proofs.Effects.{table-append, refused-keeps, counted}
+use Rattle.document_model.proofs.Effects.{table-append, refused-keeps, given-before}
 use Rattle.document_model.proofs.SerialLists.{serialsWhere, all-where, exactly-one, loaded-list, beneath-list}
 use Rattle.document_model.proofs.Sandboxed.{marked-told, told-marked, sandboxed-either, sandboxed-by-container, sandboxed-by-attributes}
 
@@ -59,13 +59,6 @@ row-back small = refl
 
 place-one : (q r : Row) → place q ≡ place r → q ≡ r
 place-one q r e = sym (row-back q) ∙ ap rowAt e ∙ row-back r
-
-order : {X : Type 0} (a b : ℕ) → (a < b → X) → (b ≤ a → X) → X
-order {X = X} a b f g = side (ltb a b) refl
-  where
-    side : (c : Bool) → ltb a b ≡ c → X
-    side true e = f (omega (arith, ltb-true))
-    side false e = g (omega (arith, ltb-false))
 
 -- what the rows from a place on say of an outcome
 data Verdict (es : List Event) (c : Call) (lo : ℕ) : Outcome → Type 0 where
@@ -153,7 +146,7 @@ module _ (cs : List Call) where
       (λ e. sixteen (serialsWhere (λ w. true) (t .docs)) is (loaded-list cs) (omega (arith, ltb-false, room, reachable cs .few)))
       not-full
       (unless-verdict spent (leb (t .next) lastSerial) _
-      (λ e. all-given is (omega (arith, leb-false, counted cs .serial, reachable cs .unspent)))
+      (λ e. let w = given-before cs lastSerial (omega arith) (omega (arith, leb-false)) in all-given is (w .happened) (w .gave))
       not-spent
       (passed refl no-later))
     where
@@ -164,7 +157,7 @@ module _ (cs : List Call) where
           omega (arith, ltb-true)
 
       not-spent : leb (tableAfter cs .next) lastSerial ≡ true → Holds (history cs) c spent → ⊥
-      not-spent e (all-given i k) = omega (arith, leb-true, counted cs .serial)
+      not-spent e (all-given i h g) = omega (arith, leb-true, agrees cs .known h g)
 
   with-verdict : (c : Call) (s : ℕ) → Names c s → ((k : ℕ) → Names c k → k ≡ s) → (k : Document → Outcome) → ((d : Document) → In d (t .docs) → s ≡ d .identity .serial → Verdict es c 5 (k d)) → (o : Option Document) → Finds s (t .docs) o → Verdict es c 4 (withDocument o k)
   unfolding withDocument
@@ -208,7 +201,7 @@ module _ (cs : List Call) where
       gap q l b (top-empty z) = omega arith
       gap q l b (closed s n f) = elim n [ ]
       gap q l b (sixteen k i a z) = omega arith
-      gap q l b (all-given i z) = omega arith
+      gap q l b (all-given i z g) = omega arith
 
       end : (q : Row) → 8 ≤ place q → Holds (history cs) (topLoad h o) q → ⊥
       end q l (long x i z) = omega arith
@@ -216,7 +209,7 @@ module _ (cs : List Call) where
       end q l (top-empty z) = omega arith
       end q l (closed s n f) = elim n [ ]
       end q l (sixteen k i a z) = omega arith
-      end q l (all-given i z) = omega arith
+      end q l (all-given i z g) = omega arith
   fitting-verdict (framedLoad c h o a) =
       unless-verdict badOrigin (isGoodOrigin (originOf o)) _ (λ z. framed-bad (not-good (originOf o) z)) good
       (unless-verdict badSrc (isGoodOrigin (originOf (a .src))) _ (λ z. framed-src (not-good (originOf (a .src)) z)) src
@@ -240,7 +233,7 @@ module _ (cs : List Call) where
       gap q l b (in-container y f) = omega arith
       gap q l b (in-attribute y f) = omega arith
       gap q l b (sixteen k i y z) = omega arith
-      gap q l b (all-given i z) = omega arith
+      gap q l b (all-given i z g) = omega arith
 
       end : (q : Row) → 8 ≤ place q → Holds (history cs) (framedLoad c h o a) q → ⊥
       end q l (long x i z) = omega arith
@@ -250,7 +243,7 @@ module _ (cs : List Call) where
       end q l (in-container y f) = omega arith
       end q l (in-attribute y f) = omega arith
       end q l (sixteen k i y z) = omega arith
-      end q l (all-given i z) = omega arith
+      end q l (all-given i z g) = omega arith
   fitting-verdict (unload s) =
       extend 1 4 (omega arith) gap (with-verdict (unload s) s unload-names only _ (λ d m e. passed refl end) (find s (t .docs)) (finds s (t .docs)))
     where
@@ -261,13 +254,13 @@ module _ (cs : List Call) where
       gap q l b (long x i z) = elim i [ ]
       gap q l b (closed k n f) = omega arith
       gap q l b (sixteen k i y z) = elim i [ ]
-      gap q l b (all-given i z) = elim i [ ]
+      gap q l b (all-given i z g) = elim i [ ]
 
       end : (q : Row) → 5 ≤ place q → Holds (history cs) (unload s) q → ⊥
       end q l (long x i z) = elim i [ ]
       end q l (closed k n f) = omega arith
       end q l (sixteen k i y z) = elim i [ ]
-      end q l (all-given i z) = elim i [ ]
+      end q l (all-given i z g) = elim i [ ]
   fitting-verdict (question s f o) =
       unless-verdict badOrigin (isGoodOrigin (originOf o)) _ (λ z. question-bad (not-good (originOf o) z)) good
       (extend 2 3 (omega arith) gap
@@ -289,7 +282,7 @@ module _ (cs : List Call) where
       gap q l b (over-sixteen y) = omega arith
       gap q l b (closed k n g) = omega arith
       gap q l b (sixteen k i y z) = elim i [ ]
-      gap q l b (all-given i z) = elim i [ ]
+      gap q l b (all-given i z g) = elim i [ ]
 
       end : (q : Row) → 5 ≤ place q → Holds (history cs) (question s f o) q → ⊥
       end q l (long x i z) = elim i [ ]
@@ -297,7 +290,7 @@ module _ (cs : List Call) where
       end q l (over-sixteen y) = omega arith
       end q l (closed k n g) = omega arith
       end q l (sixteen k i y z) = elim i [ ]
-      end q l (all-given i z) = elim i [ ]
+      end q l (all-given i z g) = elim i [ ]
   fitting-verdict (enabledFeatures s) =
       extend 1 4 (omega arith) gap (with-verdict (enabledFeatures s) s enabled-names only _ (λ d m e. passed refl end) (find s (t .docs)) (finds s (t .docs)))
     where
@@ -308,13 +301,13 @@ module _ (cs : List Call) where
       gap q l b (long x i z) = elim i [ ]
       gap q l b (closed k n f) = omega arith
       gap q l b (sixteen k i y z) = elim i [ ]
-      gap q l b (all-given i z) = elim i [ ]
+      gap q l b (all-given i z g) = elim i [ ]
 
       end : (q : Row) → 5 ≤ place q → Holds (history cs) (enabledFeatures s) q → ⊥
       end q l (long x i z) = elim i [ ]
       end q l (closed k n f) = omega arith
       end q l (sixteen k i y z) = elim i [ ]
-      end q l (all-given i z) = elim i [ ]
+      end q l (all-given i z g) = elim i [ ]
   fitting-verdict (listing s run) =
       extend 1 4 (omega arith) gap
       (with-verdict (listing s run) s listing-names only _
@@ -333,21 +326,21 @@ module _ (cs : List Call) where
       gap q l b (long x i z) = elim i [ ]
       gap q l b (closed k n f) = omega arith
       gap q l b (sixteen k i y z) = elim i [ ]
-      gap q l b (all-given i z) = elim i [ ]
+      gap q l b (all-given i z g) = elim i [ ]
       gap q l b (short-run k i z) = omega arith
 
       gap′ : (q : Row) → 5 ≤ place q → place q < 10 → Holds (history cs) (listing s run) q → ⊥
       gap′ q l b (long x i z) = elim i [ ]
       gap′ q l b (closed k n f) = omega arith
       gap′ q l b (sixteen k i y z) = elim i [ ]
-      gap′ q l b (all-given i z) = elim i [ ]
+      gap′ q l b (all-given i z g) = elim i [ ]
       gap′ q l b (short-run k i z) = omega arith
 
       end : (q : Row) → 11 ≤ place q → Holds (history cs) (listing s run) q → ⊥
       end q l (long x i z) = elim i [ ]
       end q l (closed k n f) = omega arith
       end q l (sixteen k i y z) = elim i [ ]
-      end q l (all-given i z) = elim i [ ]
+      end q l (all-given i z g) = elim i [ ]
       end q l (short-run k i z) = omega arith
   fitting-verdict (forecastOf c a) =
       extend 1 2 (omega arith) gap
@@ -366,21 +359,21 @@ module _ (cs : List Call) where
       gap q l b (forecast-src y) = omega arith
       gap q l b (closed k n f) = omega arith
       gap q l b (sixteen k i y z) = elim i [ ]
-      gap q l b (all-given i z) = elim i [ ]
+      gap q l b (all-given i z g) = elim i [ ]
 
       gap′ : (q : Row) → 3 ≤ place q → place q < 4 → Holds (history cs) (forecastOf c a) q → ⊥
       gap′ q l b (long x i z) = omega arith
       gap′ q l b (forecast-src y) = omega arith
       gap′ q l b (closed k n f) = omega arith
       gap′ q l b (sixteen k i y z) = elim i [ ]
-      gap′ q l b (all-given i z) = elim i [ ]
+      gap′ q l b (all-given i z g) = elim i [ ]
 
       end : (q : Row) → 5 ≤ place q → Holds (history cs) (forecastOf c a) q → ⊥
       end q l (long x i z) = omega arith
       end q l (forecast-src y) = omega arith
       end q l (closed k n f) = omega arith
       end q l (sixteen k i y z) = elim i [ ]
-      end q l (all-given i z) = elim i [ ]
+      end q l (all-given i z g) = elim i [ ]
 
   verdict : (c : Call) → Verdict es c 0 (outcome c t)
   unfolding outcome

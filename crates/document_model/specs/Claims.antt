@@ -1,4 +1,4 @@
--- Demand 3 and document 01's sentences on the table: six claims about every list of calls on a new table, refused calls included. They are proved in `proofs/Claims`.
+-- Demand 3 and document 01's sentences on the table: seven claims about every list of calls on a new table, refused calls included. They are proved in `proofs/Claims`.
 use mathlib.Core.Path.{_≡_}
 use Prim.Native.Nat.{ℕ, _+_, _<_, _≤_}
 use mathlib.Core.Bool.{Bool, true, false}
@@ -8,18 +8,23 @@ use Rattle.limits.specs.Limits.{documentLimit}
 use Rattle.limits.specs.declared.Refusal.{Refusal}
 use Rattle.limits.specs.declared.Refusal.the-variants.{Sandbox}
 use Rattle.features.specs.Features.{featureCount}
-use Rattle.origins.specs.Origins.{originOf, nullText}
+use Rattle.origins.specs.Origins.{TupleOrigin, Origin, OriginSaid, originOf, nullText}
+use Rattle.origins.specs.Origins.Origin.{tuple, opaque, fresh}
+use Rattle.origins.specs.Origins.OriginSaid.{saysEmpty, saysNull, saysTuple}
 use Rattle.dictionaries.specs.OneItemMore.{OneItemMore}
-use Rattle.declarations.specs.Declarations.{isMalformed}
+use Rattle.declarations.specs.Declarations.{declares, isMalformed}
 use Rattle.containers.specs.Attributes.{Attributes}
+use Rattle.containers.specs.Policies.{containerPolicy}
+use Rattle.containers.specs.Sandboxes.{declaredOrigin}
 use Rattle.containers.specs.Widening.{WordMore}
-use Rattle.decisions.specs.Decisions.{Decision}
+use Rattle.decisions.specs.Decisions.{Decision, inheritedTop}
 use Rattle.decisions.specs.Decisions.Decision.{disabled}
 use Rattle.decisions.specs.Masks.{decisionAt}
+use Rattle.decisions.specs.Policies.{Policy, Frame, questionIn, inheritedIn, enabledMask, forecast}
 use Rattle.decisions.specs.Widening.{Stays}
 use Rattle.document_model.specs.Runs.{Each}
-use Rattle.document_model.specs.Model.{Text, isGoodOrigin, valuesFrom, Call, topLoad, framedLoad, unload, question, enabledFeatures, listing, forecastOf, Answer, refused, loaded, removed, decision, features, serials, runAfter, answers, answerAfter, answersAfter}
-use Rattle.document_model.specs.History.{BeneathIn, LoadedIn, history, acceptedLoads, unloadSum, given, Exactly, AreLoaded, AreBeneath}
+use Rattle.document_model.specs.Model.{Text, isGoodOrigin, arrivesAt, orFresh, valuesFrom, Call, topLoad, framedLoad, unload, question, enabledFeatures, listing, forecastOf, Answer, refused, loaded, removed, decision, features, serials, runAfter, answers, answerAfter, answersAfter}
+use Rattle.document_model.specs.History.{Event, Happened, BeneathIn, LoadedIn, SandboxedIn, history, acceptedLoads, unloadSum, given, Exactly, AreLoaded, AreBeneath}
 use Rattle.document_model.specs.Refusals.{Row, refusalOf, First}
 
 -- ---- 1. Disabled flows down
@@ -145,3 +150,50 @@ pub record SettledAtLoad : Type 0 where
   pub enabled-settled : (cs ds : List Call) (s : ℕ) → LoadedIn (history cs) s → LoadedIn (history (cs ++ ds)) s → answerAfter (cs ++ ds) (enabledFeatures s) ≡ answerAfter cs (enabledFeatures s)
   -- and so do forecasts of its frames
   pub forecast-settled : (cs ds : List Call) (s : ℕ) → LoadedIn (history cs) s → LoadedIn (history (cs ++ ds)) s → (a : Attributes) → answerAfter (cs ++ ds) (forecastOf s a) ≡ answerAfter cs (forecastOf s a)
+
+-- ---- 7. Answers as demand 2 defines them: by a policy that the calls and answers alone tell
+
+-- a mark that is set exactly if the document with the serial is sandboxed
+pub record MarkedIn (es : List Event) (s : ℕ) (mark : Bool) : Type 0 where
+  pub if-set : mark ≡ true → SandboxedIn es s
+  pub if-sandboxed : SandboxedIn es s → mark ≡ true
+
+-- a frame, by the policy and the mark of its container
+abbrev pub frameIn : Policy → Bool → Attributes → Frame
+frameIn container mark a = record { allowed = containerPolicy a; declared = orFresh (declaredOrigin mark a (container .own)) }
+
+-- "*Inherited*, top level: Enabled."
+abbrev pub topPolicy : ℕ → Text → Text → Policy
+topPolicy s h o = record { inherited = λ n. inheritedTop; declared = declares h; own = arrivesAt (originOf o) (opaque s) s }
+
+-- "Framed": by the container's policy, the frame and the arriving origin
+abbrev pub framedPolicy : Policy → Bool → Attributes → ℕ → Text → Text → Policy
+framedPolicy container mark a s h o = record {
+  inherited = inheritedIn container (frameIn container mark a) (arrivesAt (originOf o) (container .own) s);
+  declared = declares h;
+  own = arrivesAt (originOf o) (container .own) s;
+}
+
+-- "Policies are settled at load": the policy of the document with a serial, by the load that gave the serial and by the policy of the container that it named
+pub data PolicyIn (es : List Event) : ℕ → Policy → Type 0 where
+  of-top : {h o : Text} {s : ℕ} {m : Bool} → Happened (topLoad h o) (loaded s m) es → PolicyIn es s (topPolicy s h o)
+  of-frame : {c : ℕ} {h o : Text} {a : Attributes} {s : ℕ} {m : Bool} {p : Policy} {mark : Bool} → Happened (framedLoad c h o a) (loaded s m) es → PolicyIn es c p → MarkedIn es c mark
+      → PolicyIn es s (framedPolicy p mark a s h o)
+
+-- the origin that a question is about: "Empty means: ... the document's own (questions)"; with `null` a fresh one; else the text's
+pub data AskedAt (own : Origin) : OriginSaid → Origin → Type 0 where
+  at-own : AskedAt own saysEmpty own
+  at-fresh : AskedAt own saysNull fresh
+  at-tuple : (o : TupleOrigin) → AskedAt own (saysTuple o) (tuple o)
+
+pub record AnswersAsDefined : Type 0 where
+  -- "*Question*"
+  pub question-as-defined : (cs : List Call) (s f : ℕ) (o : Text) (d : Decision) → answerAfter cs (question s f o) ≡ decision d
+      → (p : Policy) × PolicyIn (history cs) s p × ((x : Origin) × AskedAt (p .own) (originOf o) x × (d ≡ questionIn p f x))
+  -- "the features enabled at a document's own origin as one 32-bit number"
+  pub enabled-as-defined : (cs : List Call) (s m : ℕ) → answerAfter cs (enabledFeatures s) ≡ features m → (p : Policy) × PolicyIn (history cs) s p × (m ≡ enabledMask p)
+  -- "A *forecast* is what a frame would inherit at its declared origin"
+  pub forecast-as-defined : (cs : List Call) (c : ℕ) (a : Attributes) (m : ℕ) → answerAfter cs (forecastOf c a) ≡ features m
+      → (p : Policy) × PolicyIn (history cs) c p × ((mark : Bool) × MarkedIn (history cs) c mark × (m ≡ forecast p (frameIn p mark a)))
+  -- and there is one such policy
+  pub one-policy : (cs : List Call) (s : ℕ) (p q : Policy) → PolicyIn (history cs) s p → PolicyIn (history cs) s q → p ≡ q

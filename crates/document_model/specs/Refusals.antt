@@ -12,8 +12,8 @@ use Rattle.origins.specs.Origins.{originOf}
 use Rattle.origins.specs.Origins.OriginSaid.{saysEmpty, saysNull, noOrigin}
 use Rattle.containers.specs.Sandboxes.{sandboxes}
 use Rattle.containers.specs.Attributes.{Attributes}
-use Rattle.document_model.specs.Model.{Text, Call, topLoad, framedLoad, unload, question, enabledFeatures, listing, forecastOf}
-use Rattle.document_model.specs.History.{Event, LoadedIn, SandboxedIn, AreLoaded, AreBeneath, acceptedLoads}
+use Rattle.document_model.specs.Model.{Text, Call, topLoad, framedLoad, unload, question, enabledFeatures, listing, forecastOf, Answer}
+use Rattle.document_model.specs.History.{Event, Happened, Gave, LoadedIn, SandboxedIn, AreLoaded, AreBeneath}
 
 -- "Order: 4 for input texts, 3 for the document's or question's origin, 3 for src, 2, 1, 5, 6, 7, 8, 4 for output, 9."
 -- `notDictionary` and `outputLong` are tidying's rows: they hold of no call on a table
@@ -91,8 +91,8 @@ pub data Holds (es : List Event) : Call → Row → Type 0 where
   in-attribute : {c : ℕ} {h o : Text} {a : Attributes} → sandboxes a ≡ true → (originOf o ≡ saysNull → ⊥) → Holds es (framedLoad c h o a) sandboxed
   -- 6: "a load, while 16 are loaded"
   sixteen : {c : Call} (l : List ℕ) → IsLoad c → AreLoaded es l → length l ≡ documentLimit → Holds es c full
-  -- 7: "a load, after serial 4,294,967,295 was given": as many loads were accepted
-  all-given : {c : Call} → IsLoad c → acceptedLoads es ≡ lastSerial → Holds es c spent
+  -- 7: "a load, after serial 4,294,967,295 was given"
+  all-given : {c k : Call} {a : Answer} → IsLoad c → Happened k a es → Gave k a lastSerial → Holds es c spent
   -- 9: "the lent run is too short for the whole output"
   short-run : {s : ℕ} {run : List ℕ} (l : List ℕ) → AreBeneath es s l → length run < length l → Holds es (listing s run) small
 
