@@ -39,6 +39,11 @@ pub docs-length : (t : Table) → length (docsIn t) ≡ t .count
 unfolding docsIn
 docs-length t = values-length (docAt t) 0 (t .count)
 
+-- the document at a place, by the record there
+pub doc-at : (t : Table) (i : ℕ) → docAt t i ≡ documentIn (getD (t .docs) i noDocument)
+unfolding docAt
+doc-at t i = refl
+
 -- a place of an array has one element, whatever stands for a place past it
 pub any-default : {A : Type 0} (l : List A) (i : ℕ) (y z : A) → i < length l → getD l i y ≡ getD l i z
 any-default [] i y z lt = absurd (omega arith)
