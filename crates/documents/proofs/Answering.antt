@@ -180,9 +180,12 @@ module _ (t : Table) (s : ℕ) (f : Found) (valid : Valid t) (h : IsFound t s f)
 
 -- ---- a listing
 
--- one serial more stands in the run
+-- one serial more stands in the run, and at last all do
 pub stored-on : (l before run : List ℕ) (n i z : ℕ) → n ≤ length l → n ≤ length before → i < n → run ≡ stored (take i l) before → set run i (getD l i z) ≡ stored (take (i + 1) l) before
 stored-on l before run n i z h k lt e = rw e (stored-more l before i z (omega arith) (omega arith))
+
+pub stored-end : (l before run : List ℕ) (n i : ℕ) → i ≤ n → n ≤ i → run ≡ stored (take i l) before → run ≡ stored (take n l) before
+stored-end l before run n i h k e = let q : n ≡ i = omega arith in rw q e
 
 module _ (t : Table) (s : ℕ) (run : List ℕ) (f : Found) (h : IsFound t s f) where
   pub refused-listing : f ≡ found.None → Lists (list s run) t run run (listing.Refused NotLoaded)
