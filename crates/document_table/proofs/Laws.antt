@@ -1,5 +1,5 @@
 -- The laws of the table: its places, and what a look at one more document changes. Assumes nothing.
-use mathlib.Core.Path.{_≡_, refl, sym, _∙_}
+use mathlib.Core.Path.{_≡_, refl, ap, sym, _∙_}
 use mathlib.Core.List.{List, [], _∷_, _++_}
 use mathlib.Core.Bool.{Bool, true, false, _||_}
 use Prim.Native.Nat.{ℕ, zero, suc, _+_, _-_, _<_, _≤_}
@@ -241,10 +241,7 @@ module _ (t : Table) (s : ℕ) (l : List ℕ) (i k : ℕ) (w : Listing t s l i k
 
   pub are-serials : i ≡ t .count → t .count ≤ documentLimit → AreSerials t s (record { list = l; count = k })
   unfolding docsIn
-  are-serials e le = record { count = omega (arith, w .within); list = rw e at (w .front) }
-
--- as many serials as the count says
-pub serials-length : (t : Table) (s : ℕ) (r : Serials) → AreSerials t s r → length (r .list) ≡ documentLimit → length (serialsBeneath s (docsIn t)) ≡ r .count
-serials-length t s r h e =
-    let le : r .count ≤ length (r .list) = omega (arith, h .count) in
-    rw (← h .list) (length-take-le (r .count) (r .list) le)
+  are-serials e le =
+      let here : k ≤ length l = omega (arith, w .within, w .long) in
+      let front : take k l ≡ serialsBeneath s (docsIn t) = rw e at (w .front) in
+      record { count = omega (arith, w .within); many = ap length (sym front) ∙ length-take-le k l here; list = front }

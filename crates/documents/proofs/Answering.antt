@@ -7,7 +7,6 @@ use mathlib.Core.Bool.{Bool, true, false, not}
 use mathlib.Core.Option.{some, none}
 use lib.ListN.{length, set, getD, take}
 use Rattle.ascii.proofs.Clash.{clash}
-use Rattle.limits.specs.Limits.{documentLimit}
 use Rattle.limits.specs.declared.Refusal.the-variants.{NotLoaded, NoSuchFeature, BadOrigin, Small}
 use Rattle.features.specs.Features.{featureCount}
 use Rattle.origins.specs.Origins.{Origin, OriginSaid, originOf}
@@ -34,7 +33,7 @@ use Rattle.document_table.specs.declared.Found.{Found}
 use Rattle.document_table.specs.declared.Found.the-variants as found
 use Rattle.document_table.specs.declared.Serials.{Serials}
 use Rattle.document_table.specs.Tables.{noDocument, docAt, docsIn, view, Sound, IsFound, IsRemoved, AreSerials}
-use Rattle.document_table.proofs.Laws.{doc-at, serials-length}
+use Rattle.document_table.proofs.Laws.{doc-at}
 use Rattle.documents.specs.declared.QuestionAnswer.{QuestionAnswer}
 use Rattle.documents.specs.declared.QuestionAnswer.the-variants as question
 use Rattle.documents.specs.declared.FeaturesAnswer.the-variants as mask
@@ -191,22 +190,20 @@ module _ (t : Table) (s : ℕ) (run : List ℕ) (f : Found) (h : IsFound t s f) 
   pub refused-listing : f ≡ found.None → Lists (list s run) t run run (listing.Refused NotLoaded)
   refused-listing k = record { answer = sym (answer-of (list s run) (view t) (refuse NotLoaded) (listing-closed s run (view t) (h .none-at k))); refusal = λ n q. refl }
 
-  module _ (i : ℕ) (k : f ≡ found.At i) (r : Serials) (are : AreSerials t s r) (long : length (r .list) ≡ documentLimit) where
+  module _ (i : ℕ) (k : f ≡ found.At i) (r : Serials) (are : AreSerials t s r) where
     pub small-listing : length run < r .count → Lists (list s run) t run run (listing.Refused Small)
     small-listing lt =
-        let many = serials-length t s r are long in
-        let less : length run < length (serialsBeneath s (docsIn t)) = omega (arith, many) in
+        let less : length run < length (serialsBeneath s (docsIn t)) = omega (arith, are .many) in
         record { answer = sym (answer-of (list s run) (view t) (refuse Small) (listing-small s run (view t) (docAt t i) (h .some-at i k .1) less)); refusal = λ n q. refl }
 
     pub answered-listing : (after : List ℕ) → r .count ≤ length run → after ≡ stored (take (r .count) (r .list)) run → Lists (list s run) t run after (listing.Count (r .count))
     answered-listing after le e =
         let l = serialsBeneath s (docsIn t) in
-        let many = serials-length t s r are long in
-        let fits : length (serialsBeneath s (docsIn t)) ≤ length run = omega (arith, many) in
+        let fits : length (serialsBeneath s (docsIn t)) ≤ length run = omega (arith, are .many) in
         record {
           answer =
               ap (serials (r .count)) (e ∙ ap (λ (m : List ℕ). stored m run) (are .list))
-              ∙ (ap (λ (m : ℕ). serials m (stored l run)) (sym many)
+              ∙ (ap (λ (m : ℕ). serials m (stored l run)) (sym (are .many))
               ∙ sym (answer-of (list s run) (view t) (accept (serials (length l) (stored l run)) (view t)) (listing-answer s run (view t) (docAt t i) (h .some-at i k .1) fits)));
           refusal = λ n q. clash cc;
         }
