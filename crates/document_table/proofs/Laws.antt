@@ -21,7 +21,6 @@ use Rattle.document_model.proofs.Laws.{elem-here, elem-end, find-here, find-on,
 use Rattle.document_table.specs.declared.Table.{Table}
 use Rattle.ascii.proofs.Clash.{clash}
 use Rattle.document_table.specs.declared.Found.the-variants as found
-use Rattle.document_table.specs.declared.Serials.{Serials}
 use Rattle.document_table.specs.Tables.{noDocument, docAt, docsIn, view, Sound, IsFound, IsBeneath, IsPushed, IsRemoved, AreSerials}
 use Rattle.document_table.proofs.Table as table-type
 use Rattle.document_records.proofs.Document as document-type

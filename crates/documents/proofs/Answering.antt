@@ -25,7 +25,7 @@ use Rattle.decisions.specs.declared.Decision.the-variants as out
 use Rattle.document_records.specs.Records.{ownOrigin, documentIn, recordPolicy}
 use Rattle.document_records.specs.declared.Document.{Document}
 use Rattle.document_records.proofs.Deciding.{record-own}
-use Rattle.document_model.specs.Model.{Call, Text, Document as ModelDocument, Table as ModelTable, newTable, isGoodOrigin, askedAt, policyOf, find, remaining, removedCount, serialsBeneath, stored, unload, question as ask, enabledFeatures, listing as list, Answer, decision, serials, refused, removed, features, accept, refuse, answerTo, tableLeft, tableAfter}
+use Rattle.document_model.specs.Model.{Text, Table as ModelTable, newTable, isGoodOrigin, askedAt, find, remaining, removedCount, serialsBeneath, stored, unload, question as ask, enabledFeatures, listing as list, Answer, decision, serials, refused, removed, features, accept, refuse, answerTo, tableLeft}
 use Rattle.document_model.proofs.Laws.{table-one, table-none, stored-more}
 use Rattle.document_model.proofs.RowByRow.{answer-of, table-of, question-bad, question-feature, question-closed, question-answer, enabled-closed, enabled-answer, unload-closed, unload-answer, listing-closed, listing-small, listing-answer}
 use Rattle.document_table.specs.declared.Table.{Table}
@@ -36,10 +36,9 @@ use Rattle.document_table.specs.Tables.{noDocument, docAt, docsIn, view, Sound,
 use Rattle.document_table.proofs.Laws.{doc-at}
 use Rattle.documents.specs.declared.QuestionAnswer.{QuestionAnswer}
 use Rattle.documents.specs.declared.QuestionAnswer.the-variants as question
-use Rattle.documents.specs.declared.FeaturesAnswer.the-variants as mask
 use Rattle.documents.specs.declared.UnloadAnswer.the-variants as unloading
 use Rattle.documents.specs.declared.ListingAnswer.the-variants as listing
-use Rattle.documents.specs.Answers.{Valid, questionIn, featuresIn, decisionAnswer, isBad, Asks, Unloads, Lists}
+use Rattle.documents.specs.Answers.{Valid, questionIn, decisionAnswer, isBad, Asks, Unloads, Lists}
 
 -- ---- a new table
 
