@@ -4,14 +4,14 @@ use Prim.Native.Nat.{ℕ, suc, _+_, _-_, _≤_, _<_}
 use native.Mathlib.Numerals.{add-one}
 use native.Mathlib.Omega.{arith}
 use mathlib.Core.Bool.{Bool, true, false, _||_}
-use mathlib.Core.List.{List, [], _∷_, _++_, append-nil}
+use mathlib.Core.List.{List, [], _∷_, _++_, append-nil, append-assoc}
 use mathlib.Core.Option.{some, none}
 use borrow.Author.Tests.{eq-eqb, ne-eqb, eqb-true, eqb-false}
 use lib.Dec.{eqb}
-use lib.ListN.{length, take, drop, getD, length-take, drop-of-length-le}
-use lib.Seq.{drop-cons, getD-take, length-take-le}
+use lib.ListN.{length, set, take, drop, getD, length-take, drop-of-length-le}
+use lib.Seq.{drop-cons, getD-take, length-take-le, take-suc, set-at}
 use Rattle.ascii.specs.Bytes.{pick}
-use Rattle.document_model.specs.Model.{Identity, Document, valuesFrom, elem, find, isAtOrBeneath, remaining, removedCount, serialsBeneath}
+use Rattle.document_model.specs.Model.{Identity, Document, valuesFrom, elem, find, isAtOrBeneath, remaining, removedCount, serialsBeneath, stored}
 use Rattle.document_model.proofs.Values.{values-snoc}
 
 -- ---- a serial among the first n of a list, from place i on
@@ -140,3 +140,19 @@ module _ (f : ℕ → Document) (s i : ℕ) where
   pub serials-same : elem s (f i .identity .above) ≡ false → serialsBeneath s (valuesFrom f 0 (i + 1)) ≡ serialsBeneath s (valuesFrom f 0 i)
   unfolding serialsBeneath pick
   serials-same e = rw (one-more, serials-append, e) (append-nil (serialsBeneath s (valuesFrom f 0 i)))
+
+-- ---- serials stored into a run, one after the other
+
+pub stored-none : (l run : List ℕ) → run ≡ stored (take 0 l) run
+unfolding stored
+stored-none l run = refl
+
+pub stored-more : (l run : List ℕ) (i z : ℕ) → i < length l → i < length run → set (stored (take i l) run) i (getD l i z) ≡ stored (take (i + 1) l) run
+unfolding stored
+stored-more l run i z h k =
+    let v = getD l i z in
+    let a : length (take i l) ≡ i = length-take-le i l (omega arith) in
+    let b : length (take (suc i) l) ≡ suc i = length-take-le (suc i) l (omega arith) in
+    let after : take (i + 1) l ++ drop (length (take (i + 1) l)) run ≡ take i l ++ (v ∷ drop (suc i) run) = rw (add-one, b, take-suc l i z h, append-assoc) refl in
+    ap (λ (n : ℕ). set (take i l ++ drop n run) i v) a
+    ∙ (ap (λ (m : List ℕ). set (take i l ++ m) i v) (drop-cons run i 0 k) ∙ (set-at (take i l) (getD run i 0) (drop (suc i) run) v i a ∙ sym after))

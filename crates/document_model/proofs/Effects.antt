@@ -25,6 +25,15 @@ pub table-append : (cs ds : List Call) → tableAfter (cs ++ ds) ≡ leftBy tabl
 unfolding tableAfter
 table-append cs ds = left-append tableLeft cs ds newTable
 
+-- one call more
+pub table-one : (cs : List Call) (c : Call) → tableAfter (cs ++ (c ∷ [])) ≡ tableLeft c (tableAfter cs)
+unfolding leftBy
+table-one cs c = table-append cs (c ∷ [])
+
+pub table-none : tableAfter [] ≡ newTable
+unfolding tableAfter leftBy
+table-none = refl
+
 pub answers-after : (cs ds : List Call) → answers (cs ++ ds) ≡ answers cs ++ answersAfter cs ds
 unfolding answers tableAfter
 answers-after cs ds = answers-append answerTo tableLeft cs ds newTable

@@ -3,12 +3,12 @@
 -- the induction over two runs
 pub use Rattle.document_model.proofs.TwoRuns.{Follow, two-runs, two-tables, left-append, answers-append}
 -- what each call does; that a refused one leaves the table as it was; that further calls go on from the table that the calls before them left; an induction over the history of calls; after any calls each document is what its load call, found among the calls, makes of its container
-pub use Rattle.document_model.proofs.Effects.{Effect, nothing-else, top-loaded, frame-loaded, all-removed, effect, refused-keeps, table-append, answers-after, history-induction, Made, made-top, made-framed, made}
+pub use Rattle.document_model.proofs.Effects.{Effect, nothing-else, top-loaded, frame-loaded, all-removed, effect, refused-keeps, table-append, table-one, table-none, answers-after, history-induction, Made, made-top, made-framed, made}
 -- what holds of every table that calls leave
 pub use Rattle.document_model.proofs.Invariant.{Invariant, reachable}
 -- the documents of the table are the loaded ones, and the serials above each are those that it is beneath
 pub use Rattle.document_model.proofs.Agreement.{Agrees, agrees}
 -- the first values of a function
 pub use Rattle.document_model.proofs.Values.{values-at, values-past, values-length, values-none, values-same, values-snoc}
--- documents looked at one after the other: what is found, stays and is listed
-pub use Rattle.document_model.proofs.DocumentLists.{elem-here, elem-on, elem-end, find-here, find-on, find-end, at-or-beneath, remaining-none, remaining-goes, remaining-stays, removed-none, removed-goes, removed-stays, serials-none, serials-more, serials-same}
+-- documents looked at one after the other: what is found, stays and is listed; serials stored into a run
+pub use Rattle.document_model.proofs.DocumentLists.{elem-here, elem-on, elem-end, find-here, find-on, find-end, at-or-beneath, remaining-none, remaining-goes, remaining-stays, removed-none, removed-goes, removed-stays, serials-none, serials-more, serials-same, stored-none, stored-more}

@@ -1,5 +1,5 @@
 -- The laws of the table: its places, and what a look at one more document changes. Assumes nothing.
-use mathlib.Core.Path.{_≡_, refl, sym, _∙_}
+use mathlib.Core.Path.{_≡_, refl, ap, sym, _∙_}
 use mathlib.Core.List.{List, [], _∷_, _++_}
 use mathlib.Core.Bool.{Bool, true, false, _||_}
 use Prim.Native.Nat.{ℕ, zero, suc, _+_, _-_, _<_, _≤_}
@@ -21,7 +21,6 @@ use Rattle.document_model.proofs.Laws.{elem-here, elem-end, find-here, find-on,
 use Rattle.document_table.specs.declared.Table.{Table}
 use Rattle.ascii.proofs.Clash.{clash}
 use Rattle.document_table.specs.declared.Found.the-variants as found
-use Rattle.document_table.specs.declared.Serials.{Serials}
 use Rattle.document_table.specs.Tables.{noDocument, docAt, docsIn, view, Sound, IsFound, IsBeneath, IsPushed, IsRemoved, AreSerials}
 use Rattle.document_table.proofs.Table as table-type
 use Rattle.document_records.proofs.Document as document-type
@@ -38,6 +37,11 @@ above-long d vs g = simp length-map at (g .1 .1 .1 .0 .1 .0 .1)
 pub docs-length : (t : Table) → length (docsIn t) ≡ t .count
 unfolding docsIn
 docs-length t = values-length (docAt t) 0 (t .count)
+
+-- the document at a place, by the record there
+pub doc-at : (t : Table) (i : ℕ) → docAt t i ≡ documentIn (getD (t .docs) i noDocument)
+unfolding docAt
+doc-at t i = refl
 
 -- a place of an array has one element, whatever stands for a place past it
 pub any-default : {A : Type 0} (l : List A) (i : ℕ) (y z : A) → i < length l → getD l i y ≡ getD l i z
@@ -236,10 +240,7 @@ module _ (t : Table) (s : ℕ) (l : List ℕ) (i k : ℕ) (w : Listing t s l i k
 
   pub are-serials : i ≡ t .count → t .count ≤ documentLimit → AreSerials t s (record { list = l; count = k })
   unfolding docsIn
-  are-serials e le = record { count = omega (arith, w .within); list = rw e at (w .front) }
-
--- as many serials as the count says
-pub serials-length : (t : Table) (s : ℕ) (r : Serials) → AreSerials t s r → length (r .list) ≡ documentLimit → length (serialsBeneath s (docsIn t)) ≡ r .count
-serials-length t s r h e =
-    let le : r .count ≤ length (r .list) = omega (arith, h .count) in
-    rw (← h .list) (length-take-le (r .count) (r .list) le)
+  are-serials e le =
+      let here : k ≤ length l = omega (arith, w .within, w .long) in
+      let front : take k l ≡ serialsBeneath s (docsIn t) = rw e at (w .front) in
+      record { count = omega (arith, w .within); many = ap length (sym front) ∙ length-take-le k l here; list = front }

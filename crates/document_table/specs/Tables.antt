@@ -4,7 +4,7 @@ use mathlib.Core.Path.{_≡_}
 use mathlib.Core.List.{List, [], _∷_, _++_}
 use mathlib.Core.Bool.{Bool, false}
 use mathlib.Core.Option.{Option, some, none}
-use lib.ListN.{getD, take, replicate}
+use lib.ListN.{length, getD, take, replicate}
 use Rattle.limits.specs.Limits.{documentLimit}
 use Rattle.origins.specs.declared.OriginRange.the-variants as origin
 use Rattle.document_model.specs.Model.{Document as ModelDocument, Table as ModelTable, valuesFrom, elem, find, remaining, removedCount, serialsBeneath}
@@ -57,6 +57,8 @@ pub record IsRemoved (t : Table) (serial : ℕ) (r : Table) : Type 0 where
   pub next : r .next ≡ t .next
   pub count : r .count + removedCount serial (docsIn t) ≡ t .count
 
+-- the serials beneath a document, and how many they are
 pub record AreSerials (t : Table) (serial : ℕ) (r : Serials) : Type 0 where
   pub count : r .count ≤ documentLimit
+  pub many : length (serialsBeneath serial (docsIn t)) ≡ r .count
   pub list : take (r .count) (r .list) ≡ serialsBeneath serial (docsIn t)
