@@ -11,7 +11,7 @@ use Rattle.declarations.specs.Declarations.{isMalformed}
 use Rattle.containers.specs.Attributes.{Attributes}
 use Rattle.document_model.specs.Model.{Text, Identity, Document, Table, find, Call, topLoad, framedLoad, unload, question, enabledFeatures, listing, forecastOf, Answer, refused, loaded, Outcome, refuseUnless, withDocument, textsFit, load, fittingOutcome, outcome, answerIn, answerTo, tableAfter}
 use Rattle.document_model.specs.History.{LoadedIn, history}
-use Rattle.document_model.specs.Claims.{AnswerFits, any-refused, top-loaded, frame-loaded, unload-removed, question-decided, enabled-numbered, listing-listed, forecast-numbered}
+use Rattle.document_model.specs.Claims.{AnswerFits, refused-fits, top-fits, framed-fits, unload-fits, question-fits, enabled-fits, listing-fits, forecast-fits}
 use Rattle.document_model.proofs.Tables.{finds, in-find}
 use Rattle.document_model.proofs.Effects.{Ends, unless-ends, with-ends, ends}
 use Rattle.document_model.proofs.Invariant.{reachable, later-after, same-doc}
@@ -43,7 +43,7 @@ refused-says (listing s run) n = tt
 refused-says (forecastOf c b) n = tt
 
 refused-right : (c : Call) (n : Refusal) → Right c (refused n)
-refused-right c n = record { fits = any-refused; says = refused-says c n }
+refused-right c n = record { fits = refused-fits; says = refused-says c n }
 
 load-right : (c : Call) (t : Table) (b : Bool) (make : Identity → Document) (identity : ℕ → Identity) → ((s : ℕ) → Right c (loaded s b)) → Ends (λ a u. Right c a) t (load t b make identity)
 unfolding load
@@ -54,32 +54,32 @@ fitting-right : (c : Call) (t : Table) → Ends (λ a u. Right c a) t (fittingOu
 unfolding fittingOutcome
 fitting-right (topLoad h o) t =
     let c : Call = topLoad h o in
-    unless-ends (λ a u. Right c a) t BadOrigin _ _ (refused-right c) λ _. load-right c t _ _ _ (λ s. record { fits = top-loaded; says = λ s m e. cc })
+    unless-ends (λ a u. Right c a) t BadOrigin _ _ (refused-right c) λ _. load-right c t _ _ _ (λ s. record { fits = top-fits; says = λ s m e. cc })
 fitting-right (framedLoad k h o b) t =
     let c : Call = framedLoad k h o b in
     let r = refused-right c in
     unless-ends (λ a u. Right c a) t BadOrigin _ _ r λ _. unless-ends (λ a u. Right c a) t BadOrigin _ _ r λ _.
     with-ends (λ a u. Right c a) t k (t .docs) (find k (t .docs)) (finds k (t .docs)) _ r λ d m e.
-    unless-ends (λ a u. Right c a) t Sandbox _ _ r λ _. load-right c t _ _ _ (λ s. record { fits = frame-loaded; says = λ s m e. cc })
+    unless-ends (λ a u. Right c a) t Sandbox _ _ r λ _. load-right c t _ _ _ (λ s. record { fits = framed-fits; says = λ s m e. cc })
 fitting-right (unload s) t =
-    with-ends (λ a u. Right (unload s) a) t s (t .docs) (find s (t .docs)) (finds s (t .docs)) _ (refused-right (unload s)) λ d m e. record { fits = unload-removed; says = tt }
+    with-ends (λ a u. Right (unload s) a) t s (t .docs) (find s (t .docs)) (finds s (t .docs)) _ (refused-right (unload s)) λ d m e. record { fits = unload-fits; says = tt }
 fitting-right (question s f o) t =
     let c : Call = question s f o in
     let r = refused-right c in
     unless-ends (λ a u. Right c a) t BadOrigin _ _ r λ _. unless-ends (λ a u. Right c a) t NoSuchFeature _ _ r λ _.
-    with-ends (λ a u. Right c a) t s (t .docs) (find s (t .docs)) (finds s (t .docs)) _ r λ d m e. record { fits = question-decided; says = tt }
+    with-ends (λ a u. Right c a) t s (t .docs) (find s (t .docs)) (finds s (t .docs)) _ r λ d m e. record { fits = question-fits; says = tt }
 fitting-right (enabledFeatures s) t =
-    with-ends (λ a u. Right (enabledFeatures s) a) t s (t .docs) (find s (t .docs)) (finds s (t .docs)) _ (refused-right (enabledFeatures s)) λ d m e. record { fits = enabled-numbered; says = tt }
+    with-ends (λ a u. Right (enabledFeatures s) a) t s (t .docs) (find s (t .docs)) (finds s (t .docs)) _ (refused-right (enabledFeatures s)) λ d m e. record { fits = enabled-fits; says = tt }
 fitting-right (listing s run) t =
     let c : Call = listing s run in
     let r = refused-right c in
     with-ends (λ a u. Right c a) t s (t .docs) (find s (t .docs)) (finds s (t .docs)) _ r λ d m e.
-    unless-ends (λ a u. Right c a) t Small _ _ r λ _. record { fits = listing-listed; says = tt }
+    unless-ends (λ a u. Right c a) t Small _ _ r λ _. record { fits = listing-fits; says = tt }
 fitting-right (forecastOf k b) t =
     let c : Call = forecastOf k b in
     let r = refused-right c in
     unless-ends (λ a u. Right c a) t BadOrigin _ _ r λ _.
-    with-ends (λ a u. Right c a) t k (t .docs) (find k (t .docs)) (finds k (t .docs)) _ r λ d m e. record { fits = forecast-numbered; says = tt }
+    with-ends (λ a u. Right c a) t k (t .docs) (find k (t .docs)) (finds k (t .docs)) _ r λ d m e. record { fits = forecast-fits; says = tt }
 
 outcome-right : (c : Call) (t : Table) → Ends (λ a u. Right c a) t (outcome c t)
 unfolding outcome

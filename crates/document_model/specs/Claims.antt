@@ -118,14 +118,14 @@ pub record ForecastComesTrue : Type 0 where
 
 -- a refusal, or an answer of the call's own kind
 pub data AnswerFits : Call → Answer → Type 0 where
-  any-refused : {c : Call} {n : Refusal} → AnswerFits c (refused n)
-  top-loaded : {h o : Text} {s : ℕ} {m : Bool} → AnswerFits (topLoad h o) (loaded s m)
-  frame-loaded : {c : ℕ} {h o : Text} {a : Attributes} {s : ℕ} {m : Bool} → AnswerFits (framedLoad c h o a) (loaded s m)
-  unload-removed : {s n : ℕ} → AnswerFits (unload s) (removed n)
-  question-decided : {s f : ℕ} {o : Text} {d : Decision} → AnswerFits (question s f o) (decision d)
-  enabled-numbered : {s m : ℕ} → AnswerFits (enabledFeatures s) (features m)
-  listing-listed : {s n : ℕ} {run run′ : List ℕ} → AnswerFits (listing s run) (serials n run′)
-  forecast-numbered : {c m : ℕ} {a : Attributes} → AnswerFits (forecastOf c a) (features m)
+  refused-fits : {c : Call} {n : Refusal} → AnswerFits c (refused n)
+  top-fits : {h o : Text} {s : ℕ} {m : Bool} → AnswerFits (topLoad h o) (loaded s m)
+  framed-fits : {c : ℕ} {h o : Text} {a : Attributes} {s : ℕ} {m : Bool} → AnswerFits (framedLoad c h o a) (loaded s m)
+  unload-fits : {s n : ℕ} → AnswerFits (unload s) (removed n)
+  question-fits : {s f : ℕ} {o : Text} {d : Decision} → AnswerFits (question s f o) (decision d)
+  enabled-fits : {s m : ℕ} → AnswerFits (enabledFeatures s) (features m)
+  listing-fits : {s n : ℕ} {run run′ : List ℕ} → AnswerFits (listing s run) (serials n run′)
+  forecast-fits : {c m : ℕ} {a : Attributes} → AnswerFits (forecastOf c a) (features m)
 
 pub record RefusalsExactly : Type 0 where
   -- "Given exactly when (and no earlier row of the order applies)"
