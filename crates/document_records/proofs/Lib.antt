@@ -1,3 +1,4 @@
 pub mod Deciding
 pub mod Inheriting
 pub mod Laws
+pub mod Parts

@@ -8,13 +8,14 @@ use Rattle.origins.specs.Origins.{originOf}
 use Rattle.origins.specs.Answers.{originAs}
 use Rattle.origins.specs.declared.OriginText.{OriginText}
 use Rattle.origins.specs.declared.OriginText.the-variants as said
-use Rattle.decisions.specs.Policies.{questionIn as questionPolicy}
+use Rattle.containers.specs.Attributes.{Attributes}
+use Rattle.decisions.specs.Policies.{questionIn as questionPolicy, forecast}
 use Rattle.decisions.specs.Answers.{decisionIn}
 use Rattle.decisions.specs.declared.Decision.{Decision as DecisionOut}
-use Rattle.document_records.specs.Records.{ownOrigin, recordPolicy}
+use Rattle.document_records.specs.Records.{ownOrigin, documentIn, recordPolicy}
 use Rattle.document_records.specs.declared.Document.{Document}
 use Rattle.decisions.specs.Decisions.Decision.{disabled, enabled}
-use Rattle.document_model.specs.Model.{Call, Answer, refused, loaded, removed, decision, features, serials, askedAt, answerTo, tableLeft, tableAfter}
+use Rattle.document_model.specs.Model.{Call, Answer, refused, loaded, removed, decision, features, serials, askedAt, frameOf, answerTo, tableLeft, tableAfter}
 use Rattle.document_table.specs.declared.Table.{Table}
 use Rattle.document_table.specs.Tables.{view, Sound}
 use Rattle.documents.specs.declared.QuestionAnswer.{QuestionAnswer}
@@ -27,6 +28,7 @@ use Rattle.documents.specs.declared.UnloadAnswer.{UnloadAnswer}
 use Rattle.documents.specs.declared.UnloadAnswer.the-variants as unload
 use Rattle.documents.specs.declared.ListingAnswer.{ListingAnswer}
 use Rattle.documents.specs.declared.ListingAnswer.the-variants as listing
+use Rattle.documents.specs.declared.FrameMarks.{FrameMarks}
 use Rattle.documents.specs.declared.Loading.{Loading}
 use Rattle.documents.specs.declared.Unloading.{Unloading}
 
@@ -91,3 +93,11 @@ isBad said.NotAnOrigin = true
 -- the question to a document's record, told what the origin text says: for every text that says so
 pub record Asks (d : Document) (n : ℕ) (s : List ℕ) (x : OriginText) (r : DecisionOut) : Type 0 where
   pub says : x ≡ originAs (originOf s) → decisionIn r ≡ questionPolicy (recordPolicy d) n (askedAt (originOf s) (ownOrigin d))
+
+-- a frame's attributes, as the calls get them
+abbrev pub attributes : List ℕ → FrameMarks → List ℕ → List ℕ → Attributes
+attributes allow marks sandbox src = record { allow = allow; allowfullscreen = marks .allowfullscreen; hasSandbox = marks .«has_sandbox»; sandbox = sandbox; src = src }
+
+-- a forecast for a frame in a document's record, told what src says
+pub record Foretells (c : Document) (x : OriginText) (a : Attributes) (r : ℕ) : Type 0 where
+  pub says : x ≡ originAs (originOf (a .src)) → r ≡ forecast (recordPolicy c) (frameOf (documentIn c .identity) a)

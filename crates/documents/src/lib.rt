@@ -1,16 +1,18 @@
 // The calls on the table of loaded documents.
 ghost use mathlib.Core.Path.{_≡_};
-ghost use Rattle.document_model.specs.Model.{newTable, answerTo, unload, question, enabledFeatures, listing, stored};
+ghost use Rattle.document_model.specs.Model.{newTable, answerTo, unload, question, enabledFeatures, listing, forecastOf, stored};
 ghost use Prim.Native.Nat.{_≤_};
 ghost use lib.ListN.{length, take};
 ghost use Rattle.limits.specs.Limits.{documentLimit};
 ghost use Rattle.document_table.specs.Tables.{view};
-ghost use Rattle.documents.specs.Answers.{Valid, questionIn, featuresIn, decisionAnswer, isBad, Asks, Unloads, Lists};
+ghost use Rattle.documents.specs.Answers.{Valid, questionIn, featuresIn, decisionAnswer, isBad, Asks, Unloads, Lists, attributes, Foretells};
+use containers::DeclaredOrigin;
 use decisions::Decision;
 use document_records::Document;
 use document_table::Found;
 use document_table::Table;
 use limits::Refusal;
+use limits::TEXT_BYTES;
 use origins::OriginRange;
 use origins::OriginText;
 
@@ -48,6 +50,12 @@ pub enum UnloadAnswer {
 pub enum ListingAnswer {
     Count(usize),
     Refused(Refusal),
+}
+
+// Two of a frame's attributes: whether allowfullscreen stands, and whether a sandbox attribute does.
+pub struct FrameMarks {
+    pub allowfullscreen: bool,
+    pub has_sandbox: bool,
 }
 
 // A call that changes the table: its answer, and the table afterwards.
@@ -186,5 +194,82 @@ fn store(run: &mut [u32], list: [u32; limits::DOCUMENTS], n: usize)
     while i < n {
         run[i] = list[i];
         i += 1;
+    }
+}
+
+// What a frame in a document would inherit at its declared origin, by what src says.
+fn foretold(
+    c: Document,
+    said: OriginText,
+    src: &[u8],
+    marks: FrameMarks,
+    allow: &[u8],
+    sandbox: &[u8],
+) -> u32
+    ensures { λ r. ⌜ Foretells c said (attributes (now (allow .entry)) marks (now (sandbox .entry)) (now (src .entry))) r ⌝ }
+{
+    let sandboxed = containers::is_sandboxed(c.sandboxed, marks.has_sandbox, sandbox);
+    match containers::declared_origin(sandboxed, said) {
+        DeclaredOrigin::Fresh => document_records::inherited(
+            c,
+            allow,
+            marks.allowfullscreen,
+            false,
+            src,
+            OriginRange::Fresh,
+        ),
+        DeclaredOrigin::Container => {
+            let text = c.text;
+            let own = c.origin;
+            let same = document_records::is_own(c, &text, own);
+            document_records::inherited(c, allow, marks.allowfullscreen, same, &text, own)
+        }
+        DeclaredOrigin::Src(r) => document_records::inherited(
+            c,
+            allow,
+            marks.allowfullscreen,
+            true,
+            src,
+            OriginRange::Tuple(r),
+        ),
+        DeclaredOrigin::NotAnOrigin => document_records::inherited(
+            c,
+            allow,
+            marks.allowfullscreen,
+            false,
+            src,
+            OriginRange::Fresh,
+        ),
+    }
+}
+
+// What a frame with these attributes would inherit in a document at its declared origin.
+pub fn forecast(
+    t: Table,
+    container: u32,
+    src: &[u8],
+    marks: FrameMarks,
+    allow: &[u8],
+    sandbox: &[u8],
+) -> FeaturesAnswer
+    requires { ⌜ Valid t ⌝ }
+    ensures { λ r. ⌜ featuresIn r ≡ answerTo (forecastOf container (attributes (now (allow .entry)) marks (now (sandbox .entry)) (now (src .entry)))) (view t) ⌝ }
+{
+    if TEXT_BYTES < allow.len() {
+        return FeaturesAnswer::Refused(Refusal::TooLong);
+    }
+    if TEXT_BYTES < sandbox.len() {
+        return FeaturesAnswer::Refused(Refusal::TooLong);
+    }
+    let said = origins::origin_text(src);
+    if is_bad(said) {
+        return FeaturesAnswer::Refused(Refusal::BadOrigin);
+    }
+    match document_table::find(t, container) {
+        Found::At(i) => {
+            let c = document_table::document_at(t, i);
+            FeaturesAnswer::Features(foretold(c, said, src, marks, allow, sandbox))
+        }
+        Found::None => FeaturesAnswer::Refused(Refusal::NotLoaded),
     }
 }

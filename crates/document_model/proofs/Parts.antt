@@ -1,0 +1,42 @@
+-- What frames and loaded documents consist of: a part of the laws of this crate. Assumes nothing.
+use mathlib.Core.Path.{_≡_, refl}
+use Prim.Native.Nat.{ℕ}
+use mathlib.Core.List.{List, [], _∷_}
+use mathlib.Core.Bool.{Bool, true, false}
+use Rattle.features.specs.Features.{featureCount}
+use Rattle.origins.specs.Origins.{Origin, OriginSaid}
+use Rattle.origins.specs.Origins.Origin.{opaque}
+use Rattle.declarations.specs.Declarations.{declares}
+use Rattle.containers.specs.Attributes.{Attributes}
+use Rattle.containers.specs.Sandboxes.{isSandboxed, declaredOrigin}
+use Rattle.decisions.specs.Decisions.{inheritedTop}
+use Rattle.decisions.specs.Masks.{maskOf}
+use Rattle.decisions.specs.Policies.{Policy, Frame, inheritedIn, forecast}
+use Rattle.document_model.specs.Model.{Text, arrivesAt, Identity, Document, valuesFrom, declaredBy, policyOf, frameSandboxed, orFresh, frameDeclared, frameOf, topIdentity, framedIdentity, topDocument, framedDocument}
+
+pub frame-sandboxed : (c : Identity) (a : Attributes) → frameSandboxed c a ≡ isSandboxed (c .sandboxed) a
+unfolding frameSandboxed
+frame-sandboxed c a = refl
+
+pub frame-declared : (c : Identity) (a : Attributes) → frameDeclared c a ≡ orFresh (declaredOrigin (c .sandboxed) a (c .origin))
+unfolding frameDeclared
+frame-declared c a = refl
+
+-- a forecast is what arrives at the declared origin
+pub forecast-is : (p : Policy) (f : Frame) → forecast p f ≡ maskOf (inheritedIn p f (f .declared))
+unfolding forecast
+forecast-is p f = refl
+
+pub top-parts : (h : Text) (said : OriginSaid) (n : ℕ) → topDocument h (topIdentity said n) ≡ record { identity = record { serial = n; above = []; origin = arrivesAt said (opaque n) n; sandboxed = false }; inherited = maskOf (λ k. inheritedTop); declared = valuesFrom (declares h) 0 featureCount }
+unfolding topDocument topIdentity declaredBy
+top-parts h said n = refl
+
+pub framed-parts : (c : Document) (h : Text) (a : Attributes) (said : OriginSaid) (n : ℕ)
+    → framedDocument c h a (framedIdentity (c .identity) a said n)
+    ≡ record {
+      identity = record { serial = n; above = c .identity .serial ∷ c .identity .above; origin = arrivesAt said (c .identity .origin) n; sandboxed = frameSandboxed (c .identity) a };
+      inherited = maskOf (inheritedIn (policyOf c) (frameOf (c .identity) a) (arrivesAt said (c .identity .origin) n));
+      declared = valuesFrom (declares h) 0 featureCount;
+    }
+unfolding framedDocument framedIdentity declaredBy
+framed-parts c h a said n = refl

@@ -1,0 +1,27 @@
+-- `foretold` is right: each arm arrives at the declared origin.
+use Rattle.documents.proofs.Frames.{foretold-fresh, foretold-none, foretold-container, foretold-src}
+use borrow.Author.Needs.{needs}
+use Rattle.documents.proofs.foretold.Statement.{statement}
+use Rattle.documents.proofs.foretold.Tie as tie
+
+pub foretold-spec : {M : Type 1} → statement M
+foretold-spec =
+    tie.close
+    (tie.spec
+    (λ c κs. search needs)
+    (λ c κs. search needs)
+    (λ c. search needs)
+    (λ c κs. search needs)
+    (λ c. search needs)
+    (λ c. search needs)
+    (λ c κs. search needs)
+    (λ c. search needs)
+    (λ c κs. search needs)
+    (λ c. search needs)
+    (λ c κs. search needs)
+    (λ c. search needs)
+    (λ c κs. search needs)
+    (λ c. search foretold-fresh)
+    (λ c. search foretold-container)
+    (λ c. search foretold-src)
+    (λ c. search foretold-none))
