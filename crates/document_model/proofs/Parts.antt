@@ -1,7 +1,8 @@
 -- What frames and loaded documents consist of: a part of the laws of this crate. Assumes nothing.
 use mathlib.Core.Path.{_≡_, refl}
 use Prim.Native.Nat.{ℕ}
-use mathlib.Core.List.{List, [], _∷_}
+use mathlib.Core.List.{List, [], _∷_, _++_}
+use lib.ListN.{length, drop}
 use mathlib.Core.Bool.{Bool, true, false}
 use Rattle.features.specs.Features.{featureCount}
 use Rattle.origins.specs.Origins.{Origin, OriginSaid}
@@ -10,9 +11,9 @@ use Rattle.declarations.specs.Declarations.{declares}
 use Rattle.containers.specs.Attributes.{Attributes}
 use Rattle.containers.specs.Sandboxes.{isSandboxed, declaredOrigin}
 use Rattle.decisions.specs.Decisions.{inheritedTop}
-use Rattle.decisions.specs.Masks.{maskOf}
+use Rattle.decisions.specs.Masks.{maskOf, maskBelow}
 use Rattle.decisions.specs.Policies.{Policy, Frame, inheritedIn, forecast}
-use Rattle.document_model.specs.Model.{Text, arrivesAt, Identity, Document, valuesFrom, declaredBy, policyOf, frameSandboxed, orFresh, frameDeclared, frameOf, topIdentity, framedIdentity, topDocument, framedDocument}
+use Rattle.document_model.specs.Model.{Text, arrivesAt, Identity, Document, valuesFrom, declaredBy, policyOf, frameSandboxed, orFresh, frameDeclared, frameOf, topIdentity, framedIdentity, topDocument, framedDocument, stored}
 
 pub frame-sandboxed : (c : Identity) (a : Attributes) → frameSandboxed c a ≡ isSandboxed (c .sandboxed) a
 unfolding frameSandboxed
@@ -40,3 +41,13 @@ pub framed-parts : (c : Document) (h : Text) (a : Attributes) (said : OriginSaid
     }
 unfolding framedDocument framedIdentity declaredBy
 framed-parts c h a said n = refl
+
+-- some serials in front of a run
+pub stored-is : (l run : List ℕ) → stored l run ≡ l ++ drop (length l) run
+unfolding stored
+stored-is l run = refl
+
+-- at the top every feature is inherited enabled
+pub top-mask : maskOf (λ k. inheritedTop) ≡ 131071
+unfolding maskBelow
+top-mask = refl

@@ -1,9 +1,12 @@
 -- What the calls promise: their answers in document 01's values and refusals, and the table that they leave.
-use Prim.Native.Nat.{ℕ}
+use Prim.Native.Nat.{ℕ, _≤_, _<_}
 use mathlib.Core.Path.{_≡_}
-use mathlib.Core.List.{List}
+use mathlib.Core.List.{List, _++_}
 use mathlib.Core.Bool.{Bool, true, false}
+use Rattle.limits.specs.Limits.{documentLimit, lastSerial}
 use Rattle.limits.specs.declared.Refusal.{Refusal}
+use Rattle.declarations.specs.Declarations.{declares, isMalformed}
+use Rattle.settled.specs.Settled.{declaredIn}
 use Rattle.origins.specs.Origins.{originOf}
 use Rattle.origins.specs.Answers.{originAs}
 use Rattle.origins.specs.declared.OriginText.{OriginText}
@@ -15,7 +18,7 @@ use Rattle.decisions.specs.declared.Decision.{Decision as DecisionOut}
 use Rattle.document_records.specs.Records.{ownOrigin, documentIn, recordPolicy}
 use Rattle.document_records.specs.declared.Document.{Document}
 use Rattle.decisions.specs.Decisions.Decision.{disabled, enabled}
-use Rattle.document_model.specs.Model.{Call, Answer, refused, loaded, removed, decision, features, serials, askedAt, frameOf, answerTo, tableLeft, tableAfter}
+use Rattle.document_model.specs.Model.{Call, Answer, refused, loaded, removed, decision, features, serials, askedAt, frameOf, Text, Identity, Document as ModelDocument, Outcome, refuse, load as loadOf, topDocument, topIdentity, answerTo, tableLeft, tableAfter}
 use Rattle.document_table.specs.declared.Table.{Table}
 use Rattle.document_table.specs.Tables.{view, Sound}
 use Rattle.documents.specs.declared.QuestionAnswer.{QuestionAnswer}
@@ -29,6 +32,9 @@ use Rattle.documents.specs.declared.UnloadAnswer.the-variants as unload
 use Rattle.documents.specs.declared.ListingAnswer.{ListingAnswer}
 use Rattle.documents.specs.declared.ListingAnswer.the-variants as listing
 use Rattle.documents.specs.declared.FrameMarks.{FrameMarks}
+use Rattle.documents.specs.declared.Room.{Room}
+use Rattle.documents.specs.declared.Room.the-variants as room
+use Rattle.documents.specs.declared.Kept.{Kept}
 use Rattle.documents.specs.declared.Loading.{Loading}
 use Rattle.documents.specs.declared.Unloading.{Unloading}
 
@@ -101,3 +107,30 @@ attributes allow marks sandbox src = record { allow = allow; allowfullscreen = m
 -- a forecast for a frame in a document's record, told what src says
 pub record Foretells (c : Document) (x : OriginText) (a : Attributes) (r : ℕ) : Type 0 where
   pub says : x ≡ originAs (originOf (a .src)) → r ≡ forecast (recordPolicy c) (frameOf (documentIn c .identity) a)
+
+-- an origin text that is none for a top-level load
+abbrev pub isBadAtTop : OriginText → Bool
+isBadAtTop said.Empty = true
+isBadAtTop said.Null = false
+isBadAtTop (said.Tuple r) = false
+isBadAtTop said.NotAnOrigin = true
+
+-- refusals 6 and 7 of every load, or its serial
+pub record IsRoom (t : Table) (r : Room) : Type 0 where
+  pub none : (n : Refusal) → r ≡ room.Refused n → (m : Bool) (document : Identity → ModelDocument) (identity : ℕ → Identity) → loadOf (view t) m document identity ≡ refuse n
+  pub serial : (s : ℕ) → r ≡ room.Serial s → (s ≡ t .next) × (t .count < documentLimit) × (t .next ≤ lastSerial)
+
+-- what a header was settled into
+pub record IsKept (s : List ℕ) (r : Kept) : Type 0 where
+  pub says : (n : ℕ) → declaredIn (r .bytes) n ≡ declares s n
+  pub malformed : r .malformed ≡ isMalformed s
+
+-- a text stands in front
+pub record Copied (s r : List ℕ) : Type 0 where
+  pub rest : List ℕ
+  pub is : r ≡ s ++ rest
+
+-- the record of a document at the top, for every header that was settled into those bytes
+pub record IsTopDocument (o header : List ℕ) (n : ℕ) (d : Document) : Type 0 where
+  pub depth : d .depth ≤ documentLimit
+  pub says : (h : Text) → ((k : ℕ) → declaredIn header k ≡ declares h k) → documentIn d ≡ topDocument h (topIdentity (originOf o) n)

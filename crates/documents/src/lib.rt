@@ -1,20 +1,26 @@
 // The calls on the table of loaded documents.
 ghost use mathlib.Core.Path.{_≡_};
-ghost use Rattle.document_model.specs.Model.{newTable, answerTo, unload, question, enabledFeatures, listing, forecastOf, stored};
+ghost use Rattle.document_model.specs.Model.{newTable, answerTo, unload, question, enabledFeatures, listing, forecastOf, topLoad, arrivesAt, stored};
+ghost use Rattle.origins.specs.Origins.{originOf};
+ghost use Rattle.origins.specs.Answers.{originAs, originIn};
 ghost use Prim.Native.Nat.{_≤_};
 ghost use lib.ListN.{length, take};
-ghost use Rattle.limits.specs.Limits.{documentLimit};
+ghost use Rattle.limits.specs.Limits.{documentLimit, textBytes};
 ghost use Rattle.document_table.specs.Tables.{view};
-ghost use Rattle.documents.specs.Answers.{Valid, questionIn, featuresIn, decisionAnswer, isBad, Asks, Unloads, Lists, attributes, Foretells};
+ghost use Rattle.documents.specs.Answers.{Valid, questionIn, featuresIn, decisionAnswer, isBad, Asks, Unloads, Lists, attributes, Foretells, isBadAtTop, Loads, IsRoom, IsKept, Copied, IsTopDocument};
 use containers::DeclaredOrigin;
 use decisions::Decision;
 use document_records::Document;
+use document_records::ORIGIN_BYTES;
+use document_records::SETTLED_BYTES;
 use document_table::Found;
 use document_table::Table;
+use limits::DOCUMENTS;
 use limits::Refusal;
 use limits::TEXT_BYTES;
 use origins::OriginRange;
 use origins::OriginText;
+use settling::Settled;
 
 // Enabled, Disabled and a refusal are three different answers.
 pub enum QuestionAnswer {
@@ -186,7 +192,7 @@ pub fn list_beneath(t: Table, serial: u32, run: &mut [u32]) -> ListingAnswer
 }
 
 // Writes the first `n` of some serials into a run.
-fn store(run: &mut [u32], list: [u32; limits::DOCUMENTS], n: usize)
+fn store(run: &mut [u32], list: [u32; DOCUMENTS], n: usize)
     requires { ⌜ (n ≤ documentLimit) × (n ≤ length (now run)) ⌝ }
     ensures { λ r. ⌜ now (run .exit) ≡ stored (take n list) (now (run .entry)) ⌝ }
 {
@@ -271,5 +277,189 @@ pub fn forecast(
             FeaturesAnswer::Features(foretold(c, said, src, marks, allow, sandbox))
         }
         Found::None => FeaturesAnswer::Refused(Refusal::NotLoaded),
+    }
+}
+
+// What a load gets: the next serial, or a refusal.
+enum Room {
+    Serial(u32),
+    Refused(Refusal),
+}
+
+// A header settled, and whether it was malformed.
+struct Kept {
+    bytes: [u8; SETTLED_BYTES],
+    malformed: bool,
+}
+
+// The origin of a document that is loaded, beside a text.
+struct Arrival {
+    text: [u8; ORIGIN_BYTES],
+    origin: OriginRange,
+}
+
+// Whether an origin text is none for a top-level load: there the empty one is none.
+fn is_bad_at_top(said: OriginText) -> bool
+    ensures { λ r. ⌜ r ≡ isBadAtTop said ⌝ }
+{
+    match said {
+        OriginText::Empty => true,
+        OriginText::Null => false,
+        OriginText::Tuple(_) => false,
+        OriginText::NotAnOrigin => true,
+    }
+}
+
+// Room and a serial for a load.
+fn room_for_one(t: Table) -> Room
+    ensures { λ r. ⌜ IsRoom t r ⌝ }
+{
+    if DOCUMENTS <= t.count {
+        return Room::Refused(Refusal::Full);
+    }
+    if (limits::LAST_SERIAL as u64) < t.next {
+        return Room::Refused(Refusal::Spent);
+    }
+    Room::Serial(t.next as u32)
+}
+
+// A header settled.
+fn settle_header(header: &[u8]) -> Kept
+    requires { ⌜ length (now header) ≤ textBytes ⌝ }
+    ensures { λ r. ⌜ IsKept (now (header .entry)) r ⌝ }
+{
+    let mut bytes = [0u8; SETTLED_BYTES];
+    match settling::settle(header, &mut bytes) {
+        Settled::Header(f) => Kept {
+            bytes,
+            malformed: f.malformed,
+        },
+        Settled::TooLong => Kept {
+            bytes,
+            malformed: true,
+        },
+        Settled::NoRoom => Kept {
+            bytes,
+            malformed: true,
+        },
+    }
+}
+
+// A text, and zeros past it.
+fn copied(s: &[u8]) -> [u8; ORIGIN_BYTES]
+    requires { ⌜ length (now s) ≤ 267 ⌝ }
+    ensures { λ r. ⌜ Copied (now (s .entry)) r ⌝ }
+{
+    let mut text = [0u8; ORIGIN_BYTES];
+    let n = s.len();
+    let mut i: usize = 0;
+    while i < n {
+        text[i] = s[i];
+        i += 1;
+    }
+    text
+}
+
+// The origin at which a document arrives, by what its origin text says; empty means the container's.
+fn arrive(
+    said: OriginText,
+    origin: &[u8],
+    text: [u8; ORIGIN_BYTES],
+    container: OriginRange,
+    serial: u32,
+) -> Arrival
+    requires { ⌜ said ≡ originAs (originOf (now origin)) ⌝ }
+    ensures { λ r. ⌜ originIn (r .text) (r .origin) ≡ arrivesAt (originOf (now (origin .entry))) (originIn text container) serial ⌝ }
+{
+    match said {
+        OriginText::Empty => Arrival {
+            text,
+            origin: container,
+        },
+        OriginText::Null => Arrival {
+            text,
+            origin: OriginRange::Opaque(serial),
+        },
+        OriginText::Tuple(r) => {
+            let own = copied(origin);
+            Arrival {
+                text: own,
+                origin: OriginRange::Tuple(r),
+            }
+        }
+        OriginText::NotAnOrigin => Arrival {
+            text,
+            origin: OriginRange::Opaque(serial),
+        },
+    }
+}
+
+// The record of a document at the top.
+fn top_document(
+    serial: u32,
+    said: OriginText,
+    origin: &[u8],
+    header: [u8; SETTLED_BYTES],
+) -> Document
+    requires { ⌜ said ≡ originAs (originOf (now origin)) ⌝ }
+    ensures { λ r. ⌜ IsTopDocument (now (origin .entry)) header serial r ⌝ }
+{
+    let a = arrive(
+        said,
+        origin,
+        [0u8; ORIGIN_BYTES],
+        OriginRange::Opaque(serial),
+        serial,
+    );
+    let own = a.origin;
+    let text = a.text;
+    Document {
+        serial,
+        above: [0; DOCUMENTS],
+        depth: 0,
+        origin: own,
+        text,
+        sandboxed: false,
+        inherited: 131071,
+        header,
+    }
+}
+
+// A document is loaded at the top.
+pub fn load_top(t: Table, origin: &[u8], header: &[u8]) -> Loading
+    requires { ⌜ Valid t ⌝ }
+    ensures { λ r. ⌜ Loads (topLoad (now (header .entry)) (now (origin .entry))) t r ⌝ }
+{
+    if TEXT_BYTES < header.len() {
+        return Loading {
+            answer: LoadAnswer::Refused(Refusal::TooLong),
+            table: t,
+        };
+    }
+    let said = origins::origin_text(origin);
+    if is_bad_at_top(said) {
+        return Loading {
+            answer: LoadAnswer::Refused(Refusal::BadOrigin),
+            table: t,
+        };
+    }
+    match room_for_one(t) {
+        Room::Refused(n) => Loading {
+            answer: LoadAnswer::Refused(n),
+            table: t,
+        },
+        Room::Serial(n) => {
+            let k = settle_header(header);
+            let bytes = k.bytes;
+            let d = top_document(n, said, origin, bytes);
+            let u = document_table::push(t, d);
+            Loading {
+                answer: LoadAnswer::Loaded(LoadedDocument {
+                    serial: n,
+                    malformed: k.malformed,
+                }),
+                table: u,
+            }
+        }
     }
 }
