@@ -28,7 +28,7 @@ use Rattle.allowlists.specs.declared.Admission.{Admission}
 use Rattle.allowlists.proofs.Laws.{all-admits, some-admits, none-admits, admission-back, fresh-all, opaque-all, allows-fresh, allows-opaque, as-wide-self}
 use Rattle.declarations.specs.Declarations.{declaredAdmits}
 use Rattle.declarations.proofs.Laws.{declared-some, declared-none, declared-told, declared-fresh, declared-opaque}
-use Rattle.decisions.specs.Decisions.{Decision, decided, unlessDisabled, byList, byDefault, valueBy, inheritedBy, questionBy}
+use Rattle.decisions.specs.Decisions.{Decision, decided, unlessDisabled, byList, byDefault, valueBy, inheritedBy, inheritedTop, questionBy}
 use Rattle.decisions.specs.Decisions.Decision.{disabled, enabled}
 use Rattle.decisions.specs.Masks.{bitOf, maskBelow, maskOf, decisionAt}
 use Rattle.decisions.specs.Policies.{Policy, Frame, value, inheritedFramed, question, valueIn, questionIn, inheritedIn, enabledMask, forecast}
@@ -428,3 +428,8 @@ enabled-parts p = refl
 pub forecast-parts : (p : Policy) (f : Frame) → forecast p f ≡ maskOf (inheritedIn p f (f .declared))
 unfolding forecast
 forecast-parts p f = refl
+
+-- at the top every feature is inherited enabled
+pub top-mask : maskOf (λ n. inheritedTop) ≡ 131071
+unfolding maskBelow
+top-mask = refl

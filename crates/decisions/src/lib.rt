@@ -8,6 +8,9 @@ ghost use Rattle.decisions.specs.Answers.{decisionIn, decisionsIn};
 use allowlists::Admission;
 use features::DefaultOf;
 
+// A bit for each of the seventeen features: what a document at the top inherits.
+pub const ALL_FEATURES: u32 = 131_071;
+
 pub enum Decision {
     Disabled,
     Enabled,

@@ -11,8 +11,8 @@ use Rattle.declarations.specs.Declarations.{declares}
 use Rattle.containers.specs.Attributes.{Attributes}
 use Rattle.containers.specs.Sandboxes.{isSandboxed, declaredOrigin}
 use Rattle.decisions.specs.Decisions.{inheritedTop}
-use Rattle.decisions.specs.Masks.{maskOf, maskBelow}
-use Rattle.decisions.specs.Policies.{Policy, Frame, inheritedIn, forecast}
+use Rattle.decisions.specs.Masks.{maskOf}
+use Rattle.decisions.specs.Policies.{inheritedIn}
 use Rattle.document_model.specs.Model.{Text, arrivesAt, Identity, Document, valuesFrom, declaredBy, policyOf, frameSandboxed, orFresh, frameDeclared, frameOf, topIdentity, framedIdentity, topDocument, framedDocument, stored}
 
 pub frame-sandboxed : (c : Identity) (a : Attributes) → frameSandboxed c a ≡ isSandboxed (c .sandboxed) a
@@ -22,11 +22,6 @@ frame-sandboxed c a = refl
 pub frame-declared : (c : Identity) (a : Attributes) → frameDeclared c a ≡ orFresh (declaredOrigin (c .sandboxed) a (c .origin))
 unfolding frameDeclared
 frame-declared c a = refl
-
--- a forecast is what arrives at the declared origin
-pub forecast-is : (p : Policy) (f : Frame) → forecast p f ≡ maskOf (inheritedIn p f (f .declared))
-unfolding forecast
-forecast-is p f = refl
 
 pub top-parts : (h : Text) (said : OriginSaid) (n : ℕ) → topDocument h (topIdentity said n) ≡ record { identity = record { serial = n; above = []; origin = arrivesAt said (opaque n) n; sandboxed = false }; inherited = maskOf (λ k. inheritedTop); declared = valuesFrom (declares h) 0 featureCount }
 unfolding topDocument topIdentity declaredBy
@@ -46,8 +41,3 @@ framed-parts c h a said n = refl
 pub stored-is : (l run : List ℕ) → stored l run ≡ l ++ drop (length l) run
 unfolding stored
 stored-is l run = refl
-
--- at the top every feature is inherited enabled
-pub top-mask : maskOf (λ k. inheritedTop) ≡ 131071
-unfolding maskBelow
-top-mask = refl

@@ -1,4 +1,4 @@
--- The laws of the records that the crates above cite. Assumes nothing.
+-- The laws of the records that the crates above cite: these, and `Parts`. Assumes nothing.
 use mathlib.Core.Path.{_≡_, refl}
 use lib.ListN.{take}
 use Rattle.document_records.specs.Records.{documentIn}

@@ -25,11 +25,12 @@ use Rattle.containers.specs.declared.DeclaredOrigin.the-variants as declared
 use Rattle.containers.proofs.Laws.{policy-allow}
 use Rattle.decisions.specs.Masks.{maskOf}
 use Rattle.decisions.specs.Policies.{Frame, inheritedIn, forecast}
+use Rattle.decisions.proofs.Laws.{forecast-parts}
 use Rattle.document_records.specs.Records.{ownOrigin, documentIn, recordPolicy, IsInherited}
 use Rattle.document_records.specs.declared.Document.{Document}
 use Rattle.document_records.proofs.Parts.{document-sandboxed, document-origin}
 use Rattle.document_model.specs.Model.{isGoodOrigin, orFresh, frameDeclared, frameOf, isShort, find, forecastOf, refused, features, accept, refuse, answerTo}
-use Rattle.document_model.proofs.Parts.{frame-declared, forecast-is}
+use Rattle.document_model.proofs.Parts.{frame-declared}
 use Rattle.document_model.proofs.RowByRow.{answer-of, forecast-long, forecast-bad, forecast-closed, forecast-answer}
 use Rattle.document_table.specs.declared.Table.{Table}
 use Rattle.document_table.specs.declared.Found.{Found}
@@ -55,7 +56,7 @@ module _ (c : Document) (x : OriginText) (allow : List ℕ) (marks : FrameMarks)
         says = λ e.
             let w : frameDeclared (documentIn c .identity) a ≡ o = declared-is c a b x d h k e ∙ q in
             i .says f (policy-allow a) (s ∙ ap (λ (y : Origin). sameOrigin y o) (sym w))
-            ∙ (ap (λ (y : Origin). maskOf (inheritedIn (recordPolicy c) f y)) (sym w) ∙ sym (forecast-is (recordPolicy c) f));
+            ∙ (ap (λ (y : Origin). maskOf (inheritedIn (recordPolicy c) f y)) (sym w) ∙ sym (forecast-parts (recordPolicy c) f));
       }
 
   pub foretold-fresh : (r : ℕ) → d ≡ declared.Fresh → IsInherited (recordPolicy c) allow (marks .allowfullscreen) false (originIn src range.Fresh) r → Foretells c x (attributes allow marks sandbox src) r

@@ -39,7 +39,8 @@ use Rattle.document_records.specs.declared.Document.{Document}
 use Rattle.document_records.proofs.Parts.{document-parts}
 use Rattle.document_model.specs.Model.{Text, Table as ModelTable, Identity, Document as ModelDocument, Call, Outcome, topLoad, loaded, refuse, accept, refused, isGoodAtTop, arrivesAt, isShort, load as loadOf, outcome, topDocument, topIdentity, valuesFrom, stored, tableLeft, answerTo}
 use Rattle.document_model.proofs.Laws.{table-one, values-same}
-use Rattle.document_model.proofs.Parts.{top-parts, top-mask, stored-is}
+use Rattle.decisions.proofs.Laws.{top-mask}
+use Rattle.document_model.proofs.Parts.{top-parts, stored-is}
 use Rattle.document_model.proofs.RowByRow.{answer-of, table-of, load-full, load-spent, load-answer, top-long, top-bad, top-load}
 use Rattle.document_table.specs.declared.Table.{Table}
 use Rattle.document_table.specs.Tables.{docsIn, view, IsPushed}

@@ -420,7 +420,7 @@ fn top_document(
         origin: own,
         text,
         sandboxed: false,
-        inherited: 131071,
+        inherited: decisions::ALL_FEATURES,
         header,
     }
 }
