@@ -156,3 +156,10 @@ stored-more l run i z h k =
     let after : take (i + 1) l ++ drop (length (take (i + 1) l)) run ≡ take i l ++ (v ∷ drop (suc i) run) = rw (add-one, b, take-suc l i z h, append-assoc) refl in
     ap (λ (n : ℕ). set (take i l ++ drop n run) i v) a
     ∙ (ap (λ (m : List ℕ). set (take i l ++ m) i v) (drop-cons run i 0 k) ∙ (set-at (take i l) (getD run i 0) (drop (suc i) run) v i a ∙ sym after))
+
+-- one more stands in the run, and at last all do
+pub stored-on : (l before run : List ℕ) (n i z : ℕ) → n ≤ length l → n ≤ length before → i < n → run ≡ stored (take i l) before → set run i (getD l i z) ≡ stored (take (i + 1) l) before
+stored-on l before run n i z h k lt e = rw e (stored-more l before i z (omega arith) (omega arith))
+
+pub stored-end : (l before run : List ℕ) (n i : ℕ) → i ≤ n → n ≤ i → run ≡ stored (take i l) before → run ≡ stored (take n l) before
+stored-end l before run n i h k e = let q : n ≡ i = omega arith in rw q e

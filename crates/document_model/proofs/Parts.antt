@@ -1,9 +1,10 @@
 -- What frames and loaded documents consist of: a part of the laws of this crate. Assumes nothing.
 use mathlib.Core.Path.{_≡_, refl}
-use Prim.Native.Nat.{ℕ}
+use Prim.Native.Nat.{ℕ, _<_}
 use mathlib.Core.List.{List, [], _∷_, _++_}
 use lib.ListN.{length, drop}
 use mathlib.Core.Bool.{Bool, true, false}
+use mathlib.Core.Option.{some}
 use Rattle.features.specs.Features.{featureCount}
 use Rattle.origins.specs.Origins.{Origin, OriginSaid}
 use Rattle.origins.specs.Origins.Origin.{opaque}
@@ -13,7 +14,9 @@ use Rattle.containers.specs.Sandboxes.{isSandboxed, declaredOrigin}
 use Rattle.decisions.specs.Decisions.{inheritedTop}
 use Rattle.decisions.specs.Masks.{maskOf}
 use Rattle.decisions.specs.Policies.{inheritedIn}
-use Rattle.document_model.specs.Model.{Text, arrivesAt, Identity, Document, valuesFrom, declaredBy, policyOf, frameSandboxed, orFresh, frameDeclared, frameOf, topIdentity, framedIdentity, topDocument, framedDocument, stored}
+use Rattle.document_model.specs.Model.{Text, arrivesAt, Identity, Document, valuesFrom, declaredBy, policyOf, frameSandboxed, orFresh, frameDeclared, frameOf, topIdentity, framedIdentity, topDocument, framedDocument, stored, find, Call, tableAfter}
+use Rattle.document_model.proofs.Tables.{find-some}
+use Rattle.document_model.proofs.Depths.{above-fewer}
 
 pub frame-sandboxed : (c : Identity) (a : Attributes) → frameSandboxed c a ≡ isSandboxed (c .sandboxed) a
 unfolding frameSandboxed
@@ -41,3 +44,7 @@ framed-parts c h a said n = refl
 pub stored-is : (l run : List ℕ) → stored l run ≡ l ++ drop (length l) run
 unfolding stored
 stored-is l run = refl
+
+-- fewer documents stand above a loaded one than are loaded
+pub found-fewer : (cs : List Call) (s : ℕ) (x : Document) → find s (tableAfter cs .docs) ≡ some x → length (x .identity .above) < length (tableAfter cs .docs)
+found-fewer cs s x e = above-fewer cs x (find-some s (tableAfter cs .docs) x e .0)

@@ -23,15 +23,10 @@ use Rattle.ascii.proofs.Clash.{clash}
 use Rattle.document_table.specs.declared.Found.the-variants as found
 use Rattle.document_table.specs.Tables.{noDocument, docAt, docsIn, view, Sound, IsFound, IsBeneath, IsPushed, IsRemoved, AreSerials}
 use Rattle.document_table.proofs.Table as table-type
-use Rattle.document_records.proofs.Document as document-type
 
 -- what a table passed tells: its array has sixteen places
 pub long : (t : Table) (vs : List Val) → Is (row table-type.the-type) t vs → length (t .docs) ≡ 16
 long t vs g = simp length-map at (g .1 .1 .0 .1 .0 .1)
-
--- and a document passed: the serials above it have as many
-pub above-long : (d : Document) (vs : List Val) → Is (row document-type.the-type) d vs → length (d .above) ≡ 16
-above-long d vs g = simp length-map at (g .1 .1 .1 .0 .1 .0 .1)
 
 -- as many documents as the count says
 pub docs-length : (t : Table) → length (docsIn t) ≡ t .count

@@ -20,9 +20,13 @@ abbrev pub noDocument : Document
 noDocument =
     record { serial = 0; above = replicate 16 0; depth = 0; origin = origin.Fresh; text = replicate 267 0; sandboxed = false; inherited = 0; header = replicate 1109 0 }
 
--- the document at a place: nothing else knows how the table keeps its documents
+-- the record at a place: nothing else knows how the table keeps its documents
+abbrev pub recordAt : Table → ℕ → Document
+recordAt t i = getD (t .docs) i noDocument
+
+-- and the document there
 unfoldable pub docAt : Table → ℕ → ModelDocument
-docAt t i = documentIn (getD (t .docs) i noDocument)
+docAt t i = documentIn (recordAt t i)
 
 -- the documents in order, and the next serial
 unfoldable pub docsIn : Table → List ModelDocument
@@ -34,12 +38,17 @@ view t = record { docs = docsIn t; next = t .next }
 -- what the functions on a table need of it: its places, and those of each document's serials above it
 pub record Sound (t : Table) : Type 0 where
   pub count : t .count ≤ documentLimit
-  pub deep : (i : ℕ) → i < t .count → getD (t .docs) i noDocument .depth ≤ documentLimit
+  pub deep : (i : ℕ) → i < t .count → recordAt t i .depth ≤ documentLimit
 
 -- a serial's place, and the document there; or the serial names none
 pub record IsFound (t : Table) (serial : ℕ) (r : Found) : Type 0 where
   pub some-at : (i : ℕ) → r ≡ found.At i → (i < t .count) × (find serial (docsIn t) ≡ some (docAt t i))
   pub none-at : r ≡ found.None → find serial (docsIn t) ≡ none
+
+-- the record at a place of a document
+pub record IsRecordAt (t : Table) (i : ℕ) (r : Document) : Type 0 where
+  pub is : r ≡ recordAt t i
+  pub deep : r .depth ≤ documentLimit
 
 pub record IsBeneath (d : Document) (serial : ℕ) (r : Bool) : Type 0 where
   pub is : r ≡ elem serial (documentIn d .identity .above)

@@ -2,11 +2,10 @@
 ghost use mathlib.Core.Path.{_≡_};
 ghost use mathlib.Core.List.{[], _∷_, _++_};
 ghost use Prim.Native.Nat.{_+_, _<_, _≤_};
-ghost use lib.ListN.{getD, take};
 ghost use Rattle.limits.specs.Limits.{documentLimit, lastSerial};
 ghost use Rattle.document_model.specs.Model.{newTable, remaining, serialsBeneath};
 ghost use Rattle.document_records.specs.Records.{documentIn};
-ghost use Rattle.document_table.specs.Tables.{noDocument, view, Sound, IsFound, IsBeneath, IsPushed, IsRemoved, AreSerials};
+ghost use Rattle.document_table.specs.Tables.{noDocument, view, Sound, IsFound, IsRecordAt, IsBeneath, IsPushed, IsRemoved, AreSerials};
 use document_records::Document;
 use limits::DOCUMENTS;
 use origins::OriginRange;
@@ -76,7 +75,7 @@ pub fn find(t: Table, serial: u32) -> Found
 // The record at a place.
 pub fn document_at(t: Table, i: usize) -> Document
     requires { ⌜ Sound t × (i < t .count) ⌝ }
-    ensures { λ r. ⌜ (r ≡ getD (t .docs) i noDocument) × (r .depth ≤ documentLimit) ⌝ }
+    ensures { λ r. ⌜ IsRecordAt t i r ⌝ }
 {
     t.docs[i]
 }

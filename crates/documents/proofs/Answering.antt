@@ -26,7 +26,7 @@ use Rattle.document_records.specs.Records.{ownOrigin, documentIn, recordPolicy}
 use Rattle.document_records.specs.declared.Document.{Document}
 use Rattle.document_records.proofs.Deciding.{record-own}
 use Rattle.document_model.specs.Model.{Text, Table as ModelTable, newTable, isGoodOrigin, askedAt, find, remaining, removedCount, serialsBeneath, stored, unload, question as ask, enabledFeatures, listing as list, Answer, decision, serials, refused, removed, features, accept, refuse, answerTo, tableLeft}
-use Rattle.document_model.proofs.Laws.{table-one, table-none, stored-more}
+use Rattle.document_model.proofs.Laws.{table-one, table-none}
 use Rattle.document_model.proofs.RowByRow.{answer-of, table-of, question-bad, question-feature, question-closed, question-answer, enabled-closed, enabled-answer, unload-closed, unload-answer, listing-closed, listing-small, listing-answer}
 use Rattle.document_table.specs.declared.Table.{Table}
 use Rattle.document_table.specs.declared.Found.{Found}
@@ -177,13 +177,6 @@ module _ (t : Table) (s : ℕ) (f : Found) (valid : Valid t) (h : IsFound t s f)
       }
 
 -- ---- a listing
-
--- one serial more stands in the run, and at last all do
-pub stored-on : (l before run : List ℕ) (n i z : ℕ) → n ≤ length l → n ≤ length before → i < n → run ≡ stored (take i l) before → set run i (getD l i z) ≡ stored (take (i + 1) l) before
-stored-on l before run n i z h k lt e = rw e (stored-more l before i z (omega arith) (omega arith))
-
-pub stored-end : (l before run : List ℕ) (n i : ℕ) → i ≤ n → n ≤ i → run ≡ stored (take i l) before → run ≡ stored (take n l) before
-stored-end l before run n i h k e = let q : n ≡ i = omega arith in rw q e
 
 module _ (t : Table) (s : ℕ) (run : List ℕ) (f : Found) (h : IsFound t s f) where
   pub refused-listing : f ≡ found.None → Lists (list s run) t run run (listing.Refused NotLoaded)

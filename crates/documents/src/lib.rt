@@ -1,18 +1,16 @@
 // The calls on the table of loaded documents.
 ghost use mathlib.Core.Path.{_≡_};
-ghost use Rattle.document_model.specs.Model.{newTable, answerTo, unload, question, enabledFeatures, listing, forecastOf, topLoad, arrivesAt, stored};
-ghost use Rattle.origins.specs.Origins.{originOf};
-ghost use Rattle.origins.specs.Answers.{originAs, originIn};
+ghost use Rattle.document_model.specs.Model.{newTable, answerTo, unload, question, enabledFeatures, listing, forecastOf, topLoad, framedLoad, stored};
 ghost use Prim.Native.Nat.{_≤_};
 ghost use lib.ListN.{length, take};
-ghost use Rattle.limits.specs.Limits.{documentLimit, textBytes};
+ghost use Rattle.limits.specs.Limits.{documentLimit};
 ghost use Rattle.document_table.specs.Tables.{view};
-ghost use Rattle.documents.specs.Answers.{Valid, questionIn, featuresIn, decisionAnswer, isBad, Asks, Unloads, Lists, attributes, Foretells, isBadAtTop, Loads, IsRoom, IsKept, Copied, IsTopDocument};
-use containers::DeclaredOrigin;
+ghost use Rattle.document_loads.specs.Loads.{attributes};
+ghost use Rattle.documents.specs.Answers.{Valid, questionIn, featuresIn, Loads, Unloads, Lists};
+ghost use Rattle.documents.specs.Steps.{decisionAnswer, isBad, Asks, isBadAtTop, IsRoom, isBarred, AreTexts, IsFrameRoom, IsAdmitted};
 use decisions::Decision;
+use document_loads::FrameMarks;
 use document_records::Document;
-use document_records::ORIGIN_BYTES;
-use document_records::SETTLED_BYTES;
 use document_table::Found;
 use document_table::Table;
 use limits::DOCUMENTS;
@@ -20,7 +18,6 @@ use limits::Refusal;
 use limits::TEXT_BYTES;
 use origins::OriginRange;
 use origins::OriginText;
-use settling::Settled;
 
 // Enabled, Disabled and a refusal are three different answers.
 pub enum QuestionAnswer {
@@ -58,10 +55,21 @@ pub enum ListingAnswer {
     Refused(Refusal),
 }
 
-// Two of a frame's attributes: whether allowfullscreen stands, and whether a sandbox attribute does.
-pub struct FrameMarks {
-    pub allowfullscreen: bool,
-    pub has_sandbox: bool,
+// The texts of a framed load, or their refusal.
+enum Texts {
+    Good,
+    Refused(Refusal),
+}
+
+// Where a framed load goes: the place of its container, and its serial.
+struct FramePlace {
+    container: usize,
+    serial: u32,
+}
+
+enum FrameRoom {
+    At(FramePlace),
+    Refused(Refusal),
 }
 
 // A call that changes the table: its answer, and the table afterwards.
@@ -203,52 +211,6 @@ fn store(run: &mut [u32], list: [u32; DOCUMENTS], n: usize)
     }
 }
 
-// What a frame in a document would inherit at its declared origin, by what src says.
-fn foretold(
-    c: Document,
-    said: OriginText,
-    src: &[u8],
-    marks: FrameMarks,
-    allow: &[u8],
-    sandbox: &[u8],
-) -> u32
-    ensures { λ r. ⌜ Foretells c said (attributes (now (allow .entry)) marks (now (sandbox .entry)) (now (src .entry))) r ⌝ }
-{
-    let sandboxed = containers::is_sandboxed(c.sandboxed, marks.has_sandbox, sandbox);
-    match containers::declared_origin(sandboxed, said) {
-        DeclaredOrigin::Fresh => document_records::inherited(
-            c,
-            allow,
-            marks.allowfullscreen,
-            false,
-            src,
-            OriginRange::Fresh,
-        ),
-        DeclaredOrigin::Container => {
-            let text = c.text;
-            let own = c.origin;
-            let same = document_records::is_own(c, &text, own);
-            document_records::inherited(c, allow, marks.allowfullscreen, same, &text, own)
-        }
-        DeclaredOrigin::Src(r) => document_records::inherited(
-            c,
-            allow,
-            marks.allowfullscreen,
-            true,
-            src,
-            OriginRange::Tuple(r),
-        ),
-        DeclaredOrigin::NotAnOrigin => document_records::inherited(
-            c,
-            allow,
-            marks.allowfullscreen,
-            false,
-            src,
-            OriginRange::Fresh,
-        ),
-    }
-}
-
 // What a frame with these attributes would inherit in a document at its declared origin.
 pub fn forecast(
     t: Table,
@@ -274,7 +236,7 @@ pub fn forecast(
     match document_table::find(t, container) {
         Found::At(i) => {
             let c = document_table::document_at(t, i);
-            FeaturesAnswer::Features(foretold(c, said, src, marks, allow, sandbox))
+            FeaturesAnswer::Features(document_loads::foretold(c, said, src, marks, allow, sandbox))
         }
         Found::None => FeaturesAnswer::Refused(Refusal::NotLoaded),
     }
@@ -284,18 +246,6 @@ pub fn forecast(
 enum Room {
     Serial(u32),
     Refused(Refusal),
-}
-
-// A header settled, and whether it was malformed.
-struct Kept {
-    bytes: [u8; SETTLED_BYTES],
-    malformed: bool,
-}
-
-// The origin of a document that is loaded, beside a text.
-struct Arrival {
-    text: [u8; ORIGIN_BYTES],
-    origin: OriginRange,
 }
 
 // Whether an origin text is none for a top-level load: there the empty one is none.
@@ -323,108 +273,6 @@ fn room_for_one(t: Table) -> Room
     Room::Serial(t.next as u32)
 }
 
-// A header settled.
-fn settle_header(header: &[u8]) -> Kept
-    requires { ⌜ length (now header) ≤ textBytes ⌝ }
-    ensures { λ r. ⌜ IsKept (now (header .entry)) r ⌝ }
-{
-    let mut bytes = [0u8; SETTLED_BYTES];
-    match settling::settle(header, &mut bytes) {
-        Settled::Header(f) => Kept {
-            bytes,
-            malformed: f.malformed,
-        },
-        Settled::TooLong => Kept {
-            bytes,
-            malformed: true,
-        },
-        Settled::NoRoom => Kept {
-            bytes,
-            malformed: true,
-        },
-    }
-}
-
-// A text, and zeros past it.
-fn copied(s: &[u8]) -> [u8; ORIGIN_BYTES]
-    requires { ⌜ length (now s) ≤ 267 ⌝ }
-    ensures { λ r. ⌜ Copied (now (s .entry)) r ⌝ }
-{
-    let mut text = [0u8; ORIGIN_BYTES];
-    let n = s.len();
-    let mut i: usize = 0;
-    while i < n {
-        text[i] = s[i];
-        i += 1;
-    }
-    text
-}
-
-// The origin at which a document arrives, by what its origin text says; empty means the container's.
-fn arrive(
-    said: OriginText,
-    origin: &[u8],
-    text: [u8; ORIGIN_BYTES],
-    container: OriginRange,
-    serial: u32,
-) -> Arrival
-    requires { ⌜ said ≡ originAs (originOf (now origin)) ⌝ }
-    ensures { λ r. ⌜ originIn (r .text) (r .origin) ≡ arrivesAt (originOf (now (origin .entry))) (originIn text container) serial ⌝ }
-{
-    match said {
-        OriginText::Empty => Arrival {
-            text,
-            origin: container,
-        },
-        OriginText::Null => Arrival {
-            text,
-            origin: OriginRange::Opaque(serial),
-        },
-        OriginText::Tuple(r) => {
-            let own = copied(origin);
-            Arrival {
-                text: own,
-                origin: OriginRange::Tuple(r),
-            }
-        }
-        OriginText::NotAnOrigin => Arrival {
-            text,
-            origin: OriginRange::Opaque(serial),
-        },
-    }
-}
-
-// The record of a document at the top.
-fn top_document(
-    serial: u32,
-    said: OriginText,
-    origin: &[u8],
-    header: [u8; SETTLED_BYTES],
-) -> Document
-    requires { ⌜ said ≡ originAs (originOf (now origin)) ⌝ }
-    ensures { λ r. ⌜ IsTopDocument (now (origin .entry)) header serial r ⌝ }
-{
-    let a = arrive(
-        said,
-        origin,
-        [0u8; ORIGIN_BYTES],
-        OriginRange::Opaque(serial),
-        serial,
-    );
-    let own = a.origin;
-    let text = a.text;
-    Document {
-        serial,
-        above: [0; DOCUMENTS],
-        depth: 0,
-        origin: own,
-        text,
-        sandboxed: false,
-        inherited: decisions::ALL_FEATURES,
-        header,
-    }
-}
-
 // A document is loaded at the top.
 pub fn load_top(t: Table, origin: &[u8], header: &[u8]) -> Loading
     requires { ⌜ Valid t ⌝ }
@@ -449,13 +297,143 @@ pub fn load_top(t: Table, origin: &[u8], header: &[u8]) -> Loading
             table: t,
         },
         Room::Serial(n) => {
-            let k = settle_header(header);
+            let k = document_loads::settle_header(header);
             let bytes = k.bytes;
-            let d = top_document(n, said, origin, bytes);
+            let d = document_loads::top_document(n, said, origin, bytes);
             let u = document_table::push(t, d);
             Loading {
                 answer: LoadAnswer::Loaded(LoadedDocument {
                     serial: n,
+                    malformed: k.malformed,
+                }),
+                table: u,
+            }
+        }
+    }
+}
+
+// Whether a sandboxed document must be refused its origin text: any but `null`.
+fn is_barred(sandboxed: bool, said: OriginText) -> bool
+    ensures { λ r. ⌜ r ≡ isBarred sandboxed said ⌝ }
+{
+    match said {
+        OriginText::Empty => sandboxed,
+        OriginText::Null => false,
+        OriginText::Tuple(_) => sandboxed,
+        OriginText::NotAnOrigin => sandboxed,
+    }
+}
+
+// Refusals 4 and 3 of a framed load.
+fn frame_texts(
+    header: &[u8],
+    allow: &[u8],
+    sandbox: &[u8],
+    said: OriginText,
+    src_said: OriginText,
+) -> Texts
+    ensures { λ r. ⌜ AreTexts (now (header .entry)) (now (allow .entry)) (now (sandbox .entry)) said «src_said» r ⌝ }
+{
+    if TEXT_BYTES < header.len() {
+        return Texts::Refused(Refusal::TooLong);
+    }
+    if TEXT_BYTES < allow.len() {
+        return Texts::Refused(Refusal::TooLong);
+    }
+    if TEXT_BYTES < sandbox.len() {
+        return Texts::Refused(Refusal::TooLong);
+    }
+    if is_bad(said) {
+        return Texts::Refused(Refusal::BadOrigin);
+    }
+    if is_bad(src_said) {
+        return Texts::Refused(Refusal::BadOrigin);
+    }
+    Texts::Good
+}
+
+// Refusals 1, 5, 6 and 7 of a framed load, or where it goes.
+fn frame_room(
+    t: Table,
+    container: u32,
+    said: OriginText,
+    has_sandbox: bool,
+    sandbox: &[u8],
+) -> FrameRoom
+    requires { ⌜ Valid t ⌝ }
+    ensures { λ r. ⌜ IsFrameRoom t container said «has_sandbox» (now (sandbox .entry)) r ⌝ }
+{
+    match document_table::find(t, container) {
+        Found::At(i) => {
+            let c = document_table::document_at(t, i);
+            let sandboxed = containers::is_sandboxed(c.sandboxed, has_sandbox, sandbox);
+            if is_barred(sandboxed, said) {
+                return FrameRoom::Refused(Refusal::Sandbox);
+            }
+            match room_for_one(t) {
+                Room::Refused(n) => FrameRoom::Refused(n),
+                Room::Serial(n) => FrameRoom::At(FramePlace {
+                    container: i,
+                    serial: n,
+                }),
+            }
+        }
+        Found::None => FrameRoom::Refused(Refusal::NotLoaded),
+    }
+}
+
+// Every refusal of a framed load, or where it goes.
+fn frame_admitted(
+    t: Table,
+    container: u32,
+    said: OriginText,
+    src_said: OriginText,
+    marks: FrameMarks,
+    allow: &[u8],
+    sandbox: &[u8],
+    header: &[u8],
+) -> FrameRoom
+    requires { ⌜ Valid t ⌝ }
+    ensures { λ r. ⌜ IsAdmitted t container said «src_said» marks (now (allow .entry)) (now (sandbox .entry)) (now (header .entry)) r ⌝ }
+{
+    match frame_texts(header, allow, sandbox, said, src_said) {
+        Texts::Refused(n) => FrameRoom::Refused(n),
+        Texts::Good => frame_room(t, container, said, marks.has_sandbox, sandbox),
+    }
+}
+
+// A document is loaded in a frame of another.
+pub fn load_framed(
+    t: Table,
+    container: u32,
+    origin: &[u8],
+    src: &[u8],
+    marks: FrameMarks,
+    allow: &[u8],
+    sandbox: &[u8],
+    header: &[u8],
+) -> Loading
+    requires { ⌜ Valid t ⌝ }
+    ensures { λ r. ⌜ Loads (framedLoad container (now (header .entry)) (now (origin .entry)) (attributes (now (allow .entry)) marks (now (sandbox .entry)) (now (src .entry)))) t r ⌝ }
+{
+    let said = origins::origin_text(origin);
+    let src_said = origins::origin_text(src);
+    match frame_admitted(t, container, said, src_said, marks, allow, sandbox, header) {
+        FrameRoom::Refused(n) => Loading {
+            answer: LoadAnswer::Refused(n),
+            table: t,
+        },
+        FrameRoom::At(p) => {
+            let c = document_table::document_at(t, p.container);
+            let k = document_loads::settle_header(header);
+            let bytes = k.bytes;
+            let d = document_loads::framed_document(
+                c, p.serial, said, origin, src_said, src, marks, allow, sandbox, bytes,
+            );
+            let u = document_table::push(t, d);
+            Loading {
+                answer: LoadAnswer::Loaded(LoadedDocument {
+                    serial: p.serial,
                     malformed: k.malformed,
                 }),
                 table: u,

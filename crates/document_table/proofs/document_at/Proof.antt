@@ -18,4 +18,4 @@ document-at-spec =
     let t = c .before .args .t1 in
     let lt : c .before .args .i < length (t .docs) = omega (arith, long t _ (c .before .good .0)) in
     let e = any-default (t .docs) (c .before .args .i) _ noDocument lt in
-    (e, rw e (c .before .pre .0 .deep (c .before .args .i) (c .before .pre .1)))))
+    record { is = e; deep = rw e (c .before .pre .0 .deep (c .before .args .i) (c .before .pre .1)) }))

@@ -5,7 +5,8 @@ use native.Mathlib.Omega.{arith}
 use lib.ListN.{take, drop}
 use Rattle.document_model.specs.Model.{elem}
 use Rattle.document_model.proofs.Laws.{elem-on}
-use Rattle.document_table.proofs.Laws.{above-long, beneath-true, beneath-false}
+use Rattle.document_records.proofs.Parts.{above-long}
+use Rattle.document_table.proofs.Laws.{beneath-true, beneath-false}
 use borrow.Author.Needs.{needs}
 use Rattle.document_table.proofs.is_beneath.Statement.{statement}
 use Rattle.document_table.proofs.is_beneath.Tie as tie

@@ -4,8 +4,7 @@ use Prim.Native.Nat.{_-_, _≤_, _<_}
 use lib.ListN.{length, take}
 use native.Mathlib.Omega.{arith}
 use Rattle.document_model.specs.Model.{stored}
-use Rattle.document_model.proofs.Laws.{stored-none}
-use Rattle.documents.proofs.Answering.{stored-on, stored-end}
+use Rattle.document_model.proofs.Laws.{stored-none, stored-on, stored-end}
 use borrow.Author.Needs.{needs}
 use Rattle.documents.proofs.store.Statement.{statement}
 use Rattle.documents.proofs.store.Tie as tie

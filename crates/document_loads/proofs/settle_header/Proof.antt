@@ -1,8 +1,8 @@
 -- `settle_header` is right: a header within the limit is settled, and the run has room for it.
-use Rattle.documents.proofs.Loads.{kept-header, kept-long, kept-small}
+use Rattle.document_loads.proofs.Keeping.{kept-header, kept-long, kept-small}
 use borrow.Author.Needs.{needs}
-use Rattle.documents.proofs.settle_header.Statement.{statement}
-use Rattle.documents.proofs.settle_header.Tie as tie
+use Rattle.document_loads.proofs.settle_header.Statement.{statement}
+use Rattle.document_loads.proofs.settle_header.Tie as tie
 
 pub settle-header-spec : {M : Type 1} → statement M
 settle-header-spec =

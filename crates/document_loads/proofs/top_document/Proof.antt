@@ -1,8 +1,8 @@
 -- `top_document` is right: the record's parts are the document's.
-use Rattle.documents.proofs.Loads.{is-top}
+use Rattle.document_loads.proofs.Framing.{is-top}
 use borrow.Author.Needs.{needs}
-use Rattle.documents.proofs.top_document.Statement.{statement}
-use Rattle.documents.proofs.top_document.Tie as tie
+use Rattle.document_loads.proofs.top_document.Statement.{statement}
+use Rattle.document_loads.proofs.top_document.Tie as tie
 
 pub top-document-spec : {M : Type 1} → statement M
 top-document-spec =

@@ -1,8 +1,8 @@
 -- `foretold` is right: each arm arrives at the declared origin.
-use Rattle.documents.proofs.Frames.{foretold-fresh, foretold-none, foretold-container, foretold-src}
+use Rattle.document_loads.proofs.Framing.{foretold-fresh, foretold-none, foretold-container, foretold-src}
 use borrow.Author.Needs.{needs}
-use Rattle.documents.proofs.foretold.Statement.{statement}
-use Rattle.documents.proofs.foretold.Tie as tie
+use Rattle.document_loads.proofs.foretold.Statement.{statement}
+use Rattle.document_loads.proofs.foretold.Tie as tie
 
 pub foretold-spec : {M : Type 1} → statement M
 foretold-spec =

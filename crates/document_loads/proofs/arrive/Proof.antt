@@ -1,8 +1,8 @@
 -- `arrive` is right: each arm is a clause of the definition, and a tuple origin's text is copied.
-use Rattle.documents.proofs.Loads.{fits, arrived-empty, arrived-null, arrived-tuple, arrived-none}
+use Rattle.document_loads.proofs.Arriving.{arrived-empty, arrived-null, arrived-tuple, arrived-none}
 use borrow.Author.Needs.{needs}
-use Rattle.documents.proofs.arrive.Statement.{statement}
-use Rattle.documents.proofs.arrive.Tie as tie
+use Rattle.document_loads.proofs.arrive.Statement.{statement}
+use Rattle.document_loads.proofs.arrive.Tie as tie
 
 pub arrive-spec : {M : Type 1} → statement M
 arrive-spec =
@@ -11,7 +11,7 @@ arrive-spec =
     (λ c. search needs)
     (λ c. search needs)
     (λ c. search needs)
-    (λ c κs. search fits)
+    (λ c κs. search needs)
     (λ c. search needs)
     (λ c. search arrived-empty)
     (λ c. search arrived-null)

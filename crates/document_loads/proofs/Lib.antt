@@ -1,0 +1,3 @@
+pub mod Arriving
+pub mod Framing
+pub mod Keeping
