@@ -37,18 +37,20 @@ use Rattle.document_model.proofs.Laws.{values-same}
 use Rattle.document_model.proofs.Parts.{top-parts, frame-sandboxed, frame-declared, framed-parts}
 use Rattle.document_loads.specs.declared.FrameMarks.{FrameMarks}
 use Rattle.document_loads.specs.declared.Arrival.{Arrival}
-use Rattle.document_loads.specs.Loads.{attributes, IsAtMost, Arrives, IsAbove, IsTopDocument, IsFramedDocument, Foretells}
+use Rattle.document_loads.specs.declared.Kept.{Kept}
+use Rattle.document_loads.specs.Loads.{attributes, IsKept, IsAtMost, Arrives, IsAbove, IsTopDocument, IsFramedDocument, Foretells}
 
 -- ---- a document at the top
 
-pub is-top : (o header above : List ℕ) (n : ℕ) (x : OriginText) (zeros : List ℕ) (a : Arrival) → Arrives x o zeros (range.Opaque n) n a
-    → IsTopDocument x o header n (record { serial = n; above = above; depth = 0; origin = a .origin; text = a .text; sandboxed = false; inherited = 131071; header = header })
-is-top o header above n x zeros a at =
+pub is-top : (o h above : List ℕ) (n : ℕ) (x : OriginText) (zeros : List ℕ) (a : Arrival) (kept : Kept) → IsKept h kept → Arrives x o zeros (range.Opaque n) n a
+    → IsTopDocument x o h n (record { document = record { serial = n; above = above; depth = 0; origin = a .origin; text = a .text; sandboxed = false; inherited = 131071; header = kept .bytes }; malformed = kept .malformed })
+is-top o h above n x zeros a kept keeps at =
     record {
       depth = omega arith;
-      says = λ read h d.
-          document-parts (record { serial = n; above = above; depth = 0; origin = a .origin; text = a .text; sandboxed = false; inherited = 131071; header = header })
-          ∙ (rw (at .says read, values-same (settledIn header) (declares h) 0 featureCount (λ k y z. d k), ← top-mask) (sym (top-parts h (originOf o) n)));
+      says = λ le read.
+          document-parts (record { serial = n; above = above; depth = 0; origin = a .origin; text = a .text; sandboxed = false; inherited = 131071; header = kept .bytes })
+          ∙ (rw (at .says read, values-same (settledIn (kept .bytes)) (declares h) 0 featureCount (λ k y z. keeps .says le k), ← top-mask) (sym (top-parts h (originOf o) n)));
+      malformed = keeps .malformed;
     }
 
 -- ---- the serials above
@@ -84,7 +86,8 @@ arrives-declared container d src o r h (some x) e = h .says x e
 arrives-declared container d src o r h none e = h .none-declared e ∙ sym (fresh-left o)
 
 -- `framed_document`
-pub is-framed : (c : Document) (o header : List ℕ) (n : ℕ) (said x : OriginText) (allow : List ℕ) (marks : FrameMarks) (sandbox src : List ℕ) (b same : Bool) (d : DeclaredOrigin) (at : Arrival) (m k : ℕ) (above : List ℕ)
+pub is-framed : (c : Document) (o h : List ℕ) (n : ℕ) (said x : OriginText) (allow : List ℕ) (marks : FrameMarks) (sandbox src : List ℕ) (b same : Bool) (d : DeclaredOrigin) (at : Arrival) (m k : ℕ) (above : List ℕ) (kept : Kept)
+    → IsKept h kept
     → IsSandboxed (c .sandboxed) (marks .«has_sandbox») sandbox b
     → IsDeclared b x d
     → Arrives said o (c .text) (c .origin) n at
@@ -92,14 +95,15 @@ pub is-framed : (c : Document) (o header : List ℕ) (n : ℕ) (said x : OriginT
     → IsInherited (recordPolicy c) allow (marks .allowfullscreen) same (originIn (at .text) (at .origin)) m
     → IsAtMost (c .depth) 15 k
     → IsAbove c k above
-    → IsFramedDocument c said o header x (attributes allow marks sandbox src) n (record { serial = n; above = above; depth = k + 1; origin = at .origin; text = at .text; sandboxed = b; inherited = m; header = header })
-is-framed c o header n said x allow marks sandbox src b same d at m k above box ds arrives is i most up =
+    → IsFramedDocument c said o h x (attributes allow marks sandbox src) n
+      (record { document = record { serial = n; above = above; depth = k + 1; origin = at .origin; text = at .text; sandboxed = b; inherited = m; header = kept .bytes }; malformed = kept .malformed })
+is-framed c o h n said x allow marks sandbox src b same d at m k above kept keeps box ds arrives is i most up =
     let a = attributes allow marks sandbox src in
     let f = frameOf (documentIn c .identity) a in
     let here = originIn (at .text) (at .origin) in
     record {
       depth = omega (arith, most .within);
-      says = λ within room read read-src h kept.
+      says = λ le within room read read-src.
           let w : same ≡ sameOrigin (frameDeclared (documentIn c .identity) a) here =
           arrives-declared (ownOrigin c) d src here same is (declaredIn src (ownOrigin c) d) refl ∙ ap (λ (y : Origin). sameOrigin y here) (sym (declared-is c a b x d box ds read-src)) in
           let bits = i .says f (policy-allow a) w in
@@ -107,8 +111,9 @@ is-framed c o header n said x allow marks sandbox src b same d at m k above box 
           let lt : c .depth < documentLimit = shallow c within (up .places) room in
           let deep : k ≡ c .depth = most .whole (omega arith) in
           let over : take (k + 1) above ≡ c .serial ∷ take (c .depth) (c .above) = up .is ∙ ap (λ (j : ℕ). c .serial ∷ take j (c .above)) deep in
-          document-parts (record { serial = n; above = above; depth = k + 1; origin = at .origin; text = at .text; sandboxed = b; inherited = m; header = header })
-          ∙ (rw (bits, arrives .says read, over, boxed, values-same (settledIn header) (declares h) 0 featureCount (λ j y z. kept j)) (sym (framed-parts (documentIn c) h a (originOf o) n ∙ rw (document-serial c, document-above c, document-origin c) refl)));
+          document-parts (record { serial = n; above = above; depth = k + 1; origin = at .origin; text = at .text; sandboxed = b; inherited = m; header = kept .bytes })
+          ∙ (rw (bits, arrives .says read, over, boxed, values-same (settledIn (kept .bytes)) (declares h) 0 featureCount (λ j y z. keeps .says le j)) (sym (framed-parts (documentIn c) h a (originOf o) n ∙ rw (document-serial c, document-above c, document-origin c) refl)));
+      malformed = keeps .malformed;
     }
 
 -- ---- a forecast

@@ -16,6 +16,7 @@ use Rattle.document_records.specs.Records.{documentIn, recordPolicy}
 use Rattle.document_records.specs.declared.Document.{Document}
 use Rattle.document_model.specs.Model.{Text, arrivesAt, frameOf, topDocument, topIdentity, framedDocument, framedIdentity}
 use Rattle.document_loads.specs.declared.FrameMarks.{FrameMarks}
+use Rattle.document_loads.specs.declared.NewDocument.{NewDocument}
 use Rattle.document_loads.specs.declared.Kept.{Kept}
 use Rattle.document_loads.specs.declared.Arrival.{Arrival}
 
@@ -48,16 +49,18 @@ pub record IsAbove (c : Document) (n : ℕ) (r : List ℕ) : Type 0 where
   pub is : take (n + 1) r ≡ c .serial ∷ take n (c .above)
   pub places : length (c .above) ≡ documentLimit
 
--- the record of a document at the top, for every header that was settled into those bytes
-pub record IsTopDocument (said : OriginText) (o header : List ℕ) (n : ℕ) (d : Document) : Type 0 where
-  pub depth : d .depth ≤ documentLimit
-  pub says : said ≡ originAs (originOf o) → (h : Text) → ((k : ℕ) → declaredIn header k ≡ declares h k) → documentIn d ≡ topDocument h (topIdentity (originOf o) n)
+-- the record of a document at the top with a header within the limit, and whether that was malformed
+pub record IsTopDocument (said : OriginText) (o h : Text) (n : ℕ) (r : NewDocument) : Type 0 where
+  pub depth : r .document .depth ≤ documentLimit
+  pub says : length h ≤ textBytes → said ≡ originAs (originOf o) → documentIn (r .document) ≡ topDocument h (topIdentity (originOf o) n)
+  pub malformed : length h ≤ textBytes → r .malformed ≡ isMalformed h
 
--- the record of a document in a frame of another that has room for one more above, for every header that was settled into those bytes
-pub record IsFramedDocument (c : Document) (said : OriginText) (o header : List ℕ) (src : OriginText) (a : Attributes) (n : ℕ) (d : Document) : Type 0 where
-  pub depth : d .depth ≤ documentLimit
-  pub says : c .depth ≤ documentLimit → length (documentIn c .identity .above) < documentLimit → said ≡ originAs (originOf o) → src ≡ originAs (originOf (a .src)) → (h : Text) → ((k : ℕ) → declaredIn header k ≡ declares h k)
-      → documentIn d ≡ framedDocument (documentIn c) h a (framedIdentity (documentIn c .identity) a (originOf o) n)
+-- the same in a frame of another document that has room for one more above
+pub record IsFramedDocument (c : Document) (said : OriginText) (o h : Text) (src : OriginText) (a : Attributes) (n : ℕ) (r : NewDocument) : Type 0 where
+  pub depth : r .document .depth ≤ documentLimit
+  pub says : length h ≤ textBytes → c .depth ≤ documentLimit → length (documentIn c .identity .above) < documentLimit → said ≡ originAs (originOf o) → src ≡ originAs (originOf (a .src))
+      → documentIn (r .document) ≡ framedDocument (documentIn c) h a (framedIdentity (documentIn c .identity) a (originOf o) n)
+  pub malformed : length h ≤ textBytes → r .malformed ≡ isMalformed h
 
 -- a forecast for a frame in a document's record, told what src says
 pub record Foretells (c : Document) (said : OriginText) (a : Attributes) (r : ℕ) : Type 0 where

@@ -17,10 +17,16 @@ pub struct FrameMarks {
     pub has_sandbox: bool,
 }
 
-// A header settled, and whether it was malformed.
-pub struct Kept {
-    pub bytes: [u8; SETTLED_BYTES],
+// The record of a document that is loaded, and whether its header was malformed.
+pub struct NewDocument {
+    pub document: Document,
     pub malformed: bool,
+}
+
+// A header settled, and whether it was malformed.
+struct Kept {
+    bytes: [u8; SETTLED_BYTES],
+    malformed: bool,
 }
 
 // The origin of a document that is loaded, beside a text.
@@ -30,7 +36,7 @@ struct Arrival {
 }
 
 // A header settled. One that is too long settles into nothing: the calls refuse it before.
-pub fn settle_header(header: &[u8]) -> Kept
+fn settle_header(header: &[u8]) -> Kept
     ensures { λ r. ⌜ IsKept (now (header .entry)) r ⌝ }
 {
     let mut bytes = [0u8; SETTLED_BYTES];
@@ -107,15 +113,11 @@ fn arrive(
     }
 }
 
-// The record of a document at the top; `header`: what its header was settled into.
-pub fn top_document(
-    serial: u32,
-    said: OriginText,
-    origin: &[u8],
-    header: [u8; SETTLED_BYTES],
-) -> Document
-    ensures { λ r. ⌜ IsTopDocument said (now (origin .entry)) header serial r ⌝ }
+// The record of a document at the top.
+pub fn top_document(serial: u32, said: OriginText, origin: &[u8], header: &[u8]) -> NewDocument
+    ensures { λ r. ⌜ IsTopDocument said (now (origin .entry)) (now (header .entry)) serial r ⌝ }
 {
+    let k = settle_header(header);
     let a = arrive(
         said,
         origin,
@@ -125,15 +127,19 @@ pub fn top_document(
     );
     let own = a.origin;
     let text = a.text;
-    Document {
-        serial,
-        above: [0; DOCUMENTS],
-        depth: 0,
-        origin: own,
-        text,
-        sandboxed: false,
-        inherited: decisions::ALL_FEATURES,
-        header,
+    let bytes = k.bytes;
+    NewDocument {
+        document: Document {
+            serial,
+            above: [0; DOCUMENTS],
+            depth: 0,
+            origin: own,
+            text,
+            sandboxed: false,
+            inherited: decisions::ALL_FEATURES,
+            header: bytes,
+        },
+        malformed: k.malformed,
     }
 }
 
@@ -153,7 +159,7 @@ fn above_in(c: Document, n: usize) -> [u32; DOCUMENTS]
     above
 }
 
-// The record of a document in a frame of another; `header`: what its header was settled into.
+// The record of a document in a frame of another.
 pub fn framed_document(
     c: Document,
     serial: u32,
@@ -164,9 +170,9 @@ pub fn framed_document(
     marks: FrameMarks,
     allow: &[u8],
     sandbox: &[u8],
-    header: [u8; SETTLED_BYTES],
-) -> Document
-    ensures { λ r. ⌜ IsFramedDocument c said (now (origin .entry)) header «src_said» (attributes (now (allow .entry)) marks (now (sandbox .entry)) (now (src .entry))) serial r ⌝ }
+    header: &[u8],
+) -> NewDocument
+    ensures { λ r. ⌜ IsFramedDocument c said (now (origin .entry)) (now (header .entry)) «src_said» (attributes (now (allow .entry)) marks (now (sandbox .entry)) (now (src .entry))) serial r ⌝ }
 {
     let sandboxed = containers::is_sandboxed(c.sandboxed, marks.has_sandbox, sandbox);
     let declared = containers::declared_origin(sandboxed, src_said);
@@ -179,15 +185,20 @@ pub fn framed_document(
     let inherited = document_records::inherited(c, allow, marks.allowfullscreen, here, &text, own);
     let n = at_most(c.depth, DOCUMENTS - 1);
     let above = above_in(c, n);
-    Document {
-        serial,
-        above,
-        depth: n + 1,
-        origin: own,
-        text,
-        sandboxed,
-        inherited,
-        header,
+    let k = settle_header(header);
+    let bytes = k.bytes;
+    NewDocument {
+        document: Document {
+            serial,
+            above,
+            depth: n + 1,
+            origin: own,
+            text,
+            sandboxed,
+            inherited,
+            header: bytes,
+        },
+        malformed: k.malformed,
     }
 }
 

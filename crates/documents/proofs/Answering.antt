@@ -1,11 +1,11 @@
 -- What each return of the calls answers, in the terms of the code. Assumes nothing.
 use mathlib.Core.Path.{_≡_, refl, ap, sym, _∙_}
-use Prim.Native.Nat.{ℕ, _+_, _-_, _≤_, _<_}
+use Prim.Native.Nat.{ℕ, _-_, _≤_, _<_}
 use native.Mathlib.Omega.{arith}
 use mathlib.Core.List.{List, [], _∷_, _++_}
 use mathlib.Core.Bool.{Bool, true, false, not}
 use mathlib.Core.Option.{some, none}
-use lib.ListN.{length, set, getD, take}
+use lib.ListN.{length, take}
 use Rattle.ascii.proofs.Clash.{clash}
 use Rattle.limits.specs.declared.Refusal.the-variants.{NotLoaded, NoSuchFeature, BadOrigin, Small}
 use Rattle.features.specs.Features.{featureCount}
@@ -32,13 +32,14 @@ use Rattle.document_table.specs.declared.Table.{Table}
 use Rattle.document_table.specs.declared.Found.{Found}
 use Rattle.document_table.specs.declared.Found.the-variants as found
 use Rattle.document_table.specs.declared.Serials.{Serials}
-use Rattle.document_table.specs.Tables.{noDocument, docAt, docsIn, view, Sound, IsFound, IsRemoved, AreSerials}
+use Rattle.document_table.specs.Tables.{docAt, docsIn, view, Sound, IsFound, IsRecordAt, IsRemoved, AreSerials}
 use Rattle.document_table.proofs.Laws.{doc-at}
 use Rattle.documents.specs.declared.QuestionAnswer.{QuestionAnswer}
 use Rattle.documents.specs.declared.QuestionAnswer.the-variants as question
 use Rattle.documents.specs.declared.UnloadAnswer.the-variants as unloading
 use Rattle.documents.specs.declared.ListingAnswer.the-variants as listing
-use Rattle.documents.specs.Answers.{Valid, questionIn, decisionAnswer, isBad, Asks, Unloads, Lists}
+use Rattle.documents.specs.Answers.{Valid, questionIn, Unloads, Lists}
+use Rattle.documents.specs.Steps.{decisionAnswer, isBad, Asks}
 
 -- ---- a new table
 
@@ -111,8 +112,8 @@ good-is o x b c e h k = sym (bad-is (originOf o)) ∙ ap not (ap isBad (sym e) �
 pub found-place : (t : Table) (s : ℕ) (f : Found) (i : ℕ) → IsFound t s f → f ≡ found.At i → i < t .count
 found-place t s f i h k = h .some-at i k .0
 
-pub found-record : (t : Table) (s : ℕ) (f : Found) (i : ℕ) (d : Document) → IsFound t s f → f ≡ found.At i → d ≡ getD (t .docs) i noDocument → find s (docsIn t) ≡ some (documentIn d)
-found-record t s f i d h k e = h .some-at i k .1 ∙ ap some (doc-at t i ∙ ap documentIn (sym e))
+pub found-record : (t : Table) (s : ℕ) (f : Found) (i : ℕ) (d : Document) → IsFound t s f → f ≡ found.At i → IsRecordAt t i d → find s (docsIn t) ≡ some (documentIn d)
+found-record t s f i d h k e = h .some-at i k .1 ∙ ap some (doc-at t i ∙ ap documentIn (sym (e .is)))
 
 module _ (t : Table) (s n : ℕ) (o : Text) (x : OriginText) (b : Bool) (read : x ≡ originAs (originOf o)) (tested : b ≡ isBad x) where
   pub refused-bad : b ≡ true → refused BadOrigin ≡ answerTo (ask s n o) (view t)
@@ -126,7 +127,7 @@ module _ (t : Table) (s n : ℕ) (o : Text) (x : OriginText) (b : Bool) (read : 
       pub refused-question : f ≡ found.None → refused NotLoaded ≡ answerTo (ask s n o) (view t)
       refused-question k = sym (answer-of (ask s n o) (view t) (refuse NotLoaded) (question-closed s n o (view t) (good-is o x b false read tested good) lt (h .none-at k)))
 
-      pub answered-question : (i : ℕ) (d : Document) (a : DecisionOut) (r : QuestionAnswer) → f ≡ found.At i → d ≡ getD (t .docs) i noDocument → Asks d n o x a → questionIn r ≡ decisionAnswer a
+      pub answered-question : (i : ℕ) (d : Document) (a : DecisionOut) (r : QuestionAnswer) → f ≡ found.At i → IsRecordAt t i d → Asks d n o x a → questionIn r ≡ decisionAnswer a
           → questionIn r ≡ answerTo (ask s n o) (view t)
       answered-question i d a r k e asks q =
           q
@@ -141,7 +142,7 @@ module _ (t : Table) (s : ℕ) (f : Found) (h : IsFound t s f) where
   pub refused-features : f ≡ found.None → refused NotLoaded ≡ answerTo (enabledFeatures s) (view t)
   refused-features k = sym (answer-of (enabledFeatures s) (view t) (refuse NotLoaded) (enabled-closed s (view t) (h .none-at k)))
 
-  pub answered-features : (i : ℕ) (d : Document) (m : ℕ) → f ≡ found.At i → d ≡ getD (t .docs) i noDocument → m ≡ enabledMask (recordPolicy d)
+  pub answered-features : (i : ℕ) (d : Document) (m : ℕ) → f ≡ found.At i → IsRecordAt t i d → m ≡ enabledMask (recordPolicy d)
       → features m ≡ answerTo (enabledFeatures s) (view t)
   answered-features i d m k e q =
       ap features q

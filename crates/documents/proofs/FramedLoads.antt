@@ -4,9 +4,10 @@ use Prim.Native.Nat.{ℕ, _≤_, _<_}
 use native.Mathlib.Omega.{arith}
 use mathlib.Core.List.{List}
 use mathlib.Core.Bool.{Bool, true, false, not, _&&_, _||_}
-use mathlib.Core.Option.{some, none}
-use lib.ListN.{length, getD, take}
-use borrow.Author.Tests.{le-leb, lt-leb}
+use mathlib.Core.Option.{some}
+use lib.ListN.{length}
+use lib.Dec.{leb}
+use borrow.Author.Tests.{le-leb, lt-leb, leb-true}
 use Rattle.ascii.proofs.Clash.{clash}
 use Rattle.limits.specs.Limits.{textBytes, documentLimit}
 use Rattle.limits.specs.declared.Refusal.{Refusal}
@@ -20,37 +21,33 @@ use Rattle.containers.specs.Attributes.{Attributes}
 use Rattle.containers.specs.Answers.{IsSandboxed}
 use Rattle.document_records.specs.Records.{documentIn}
 use Rattle.document_records.specs.declared.Document.{Document}
-use Rattle.document_records.proofs.Laws.{document-above}
 use Rattle.document_records.proofs.Parts.{document-sandboxed}
-use Rattle.document_model.specs.Model.{Text, Table as ModelTable, framedLoad, refuse, isNull, isGoodOrigin, isShort, find, frameSandboxed, load as loadOf, outcome, framedDocument, framedIdentity}
+use Rattle.document_model.specs.Model.{Text, Table as ModelTable, framedLoad, refuse, isNull, isShort, find, frameSandboxed, load as loadOf, outcome, framedDocument, framedIdentity}
 use Rattle.document_model.proofs.Parts.{frame-sandboxed, found-fewer}
 use Rattle.document_model.proofs.RowByRow.{framed-long, framed-bad, framed-src, framed-closed, framed-sandbox, framed-load}
 use Rattle.document_table.specs.declared.Table.{Table}
 use Rattle.document_table.specs.declared.Found.{Found}
 use Rattle.document_table.specs.declared.Found.the-variants as found
-use Rattle.document_table.specs.Tables.{noDocument, docsIn, view, IsFound, IsPushed}
+use Rattle.document_table.specs.Tables.{recordAt, docsIn, view, IsFound, IsRecordAt, IsPushed}
 use Rattle.document_table.proofs.Laws.{docs-length}
-use Rattle.documents.specs.declared.FrameMarks.{FrameMarks}
+use Rattle.document_loads.specs.declared.FrameMarks.{FrameMarks}
+use Rattle.document_loads.specs.declared.NewDocument.{NewDocument}
+use Rattle.document_loads.specs.Loads.{attributes, IsFramedDocument}
 use Rattle.documents.specs.declared.Room.{Room}
 use Rattle.documents.specs.declared.Room.the-variants as room
-use Rattle.documents.specs.declared.Kept.{Kept}
 use Rattle.documents.specs.declared.Texts.{Texts}
 use Rattle.documents.specs.declared.Texts.the-variants as texts
+use Rattle.documents.specs.declared.FramePlace.{FramePlace}
+use Rattle.documents.specs.declared.FrameRoom.{FrameRoom}
+use Rattle.documents.specs.declared.FrameRoom.the-variants as frame
 use Rattle.documents.specs.declared.LoadAnswer.the-variants as loading
-use Rattle.documents.specs.Answers.{Valid, Loads, isBad, isBarred, attributes, IsRoom, IsKept, IsFramedDocument, AreTexts}
+use Rattle.documents.specs.declared.Loading.{Loading}
+use Rattle.documents.specs.Answers.{Valid, Loads}
+use Rattle.documents.specs.Steps.{isBad, isBarred, IsRoom, GoodTexts, AreTexts, HasPlace, IsFramePlace, IsFrameRoom, IsAdmitted, LoadsAt}
 use Rattle.documents.proofs.Answering.{good-is, found-record}
 use Rattle.documents.proofs.Loads.{refused-load, accepted-load}
 
--- a found document has room for one more above
-pub found-shallow : (t : Table) (s : ℕ) (f : Found) (i : ℕ) (c : Document) → Valid t → IsFound t s f → f ≡ found.At i → c ≡ getD (t .docs) i noDocument → length (take (c .depth) (c .above)) < documentLimit
-found-shallow t s f i c valid h k e =
-    let there : find s (view t .docs) ≡ some (documentIn c) = found-record t s f i c h k e in
-    let few : length (documentIn c .identity .above) < length (view t .docs) =
-    subst (λ (m : ModelTable). find s (m .docs) ≡ some (documentIn c) → length (documentIn c .identity .above) < length (m .docs)) (sym (valid .left)) (found-fewer (valid .calls) s (documentIn c)) there in
-    let same : length (documentIn c .identity .above) ≡ length (take (c .depth) (c .above)) = ap length (document-above c) in
-    omega (arith, few, same, docs-length t, valid .sound .count)
-
--- refusal 5
+-- ---- refusal 5
 not-null : (o : OriginSaid) (b : Bool) → isBarred b (originAs o) ≡ true → isNull o ≡ false
 not-null saysEmpty b e = refl
 not-null saysNull b e = clash cc
@@ -70,10 +67,10 @@ let-in saysNull false e = refl
 let-in (saysTuple p) b e = rw e
 let-in noOrigin b e = rw e
 
--- the texts
+-- ---- the texts
 module _ (h allow sandbox : List ℕ) (x y : OriginText) where
   refuses-texts : (n : Refusal) → ((s : ℕ) (o : Text) (a : Attributes) (t : ModelTable) → a .allow ≡ allow → a .sandbox ≡ sandbox → x ≡ originAs (originOf o) → y ≡ originAs (originOf (a .src)) → outcome (framedLoad s h o a) t ≡ refuse n) → AreTexts h allow sandbox x y (texts.Refused n)
-  refuses-texts n f = record { refuses = λ m e s o a t p q u v. (let w : n ≡ m = cc in f s o a t p q u v ∙ ap refuse w); good = λ e. clash cc }
+  refuses-texts n f = record { refuses = λ m e s o a t p q u v. (let w : n ≡ m = cc in f s o a t p q u v ∙ ap refuse w); good = λ e o a p q u v. clash cc }
 
   pub texts-header : textBytes < length h → AreTexts h allow sandbox x y (texts.Refused TooLong)
   texts-header lt = refuses-texts TooLong (λ s o a t p q u v. framed-long s h o a t (rw (lt-leb (length h) textBytes lt)))
@@ -99,59 +96,113 @@ module _ (h allow sandbox : List ℕ) (x y : OriginText) where
             texts-src k = refuses-texts BadOrigin (λ s o a t p q u v. framed-src s h o a t (fit a p q) (good-is o x b false u tested good) (good-is (a .src) y d true v tested-src k))
 
             pub texts-good : d ≡ false → AreTexts h allow sandbox x y texts.Good
-            texts-good k = record { refuses = λ m e s o a t p q u v. clash cc; good = λ e. (short-h, short-a, short-s, sym tested ∙ good, sym tested-src ∙ k) }
+            texts-good k = record { refuses = λ m e s o a t p q u v. clash cc; good = λ e o a p q u v. record { short = fit a p q; origin = good-is o x b false u tested good; src = good-is (a .src) y d false v tested-src k } }
 
-pub texts-short : (h allow sandbox : List ℕ) (x y : OriginText) (r : Texts) → AreTexts h allow sandbox x y r → r ≡ texts.Good → length h ≤ textBytes
-texts-short h allow sandbox x y r are k = are .good k .0
+-- ---- where a framed load goes
 
-module _ (t : Table) (s : ℕ) (h o allow : Text) (marks : FrameMarks) (sandbox src : Text) (valid : Valid t) (x y : OriginText) (read : x ≡ originAs (originOf o)) (read-src : y ≡ originAs (originOf src)) (r : Texts) (are : AreTexts h allow sandbox x y r) where
-  pub framed-texts : (n : Refusal) → r ≡ texts.Refused n → Loads (framedLoad s h o (attributes allow marks sandbox src)) t (record { answer = loading.Refused n; table = t })
-  framed-texts n k =
-      let a = attributes allow marks sandbox src in
-      refused-load (framedLoad s h o a) t n valid (are .refuses n k s o a (view t) refl refl read read-src)
+-- a found document has room for one more above
+found-shallow : (t : Table) (s : ℕ) (c : Document) → Valid t → find s (docsIn t) ≡ some (documentIn c) → length (documentIn c .identity .above) < documentLimit
+found-shallow t s c valid there =
+    let few : length (documentIn c .identity .above) < length (view t .docs) =
+    subst (λ (m : ModelTable). find s (m .docs) ≡ some (documentIn c) → length (documentIn c .identity .above) < length (m .docs)) (sym (valid .left)) (found-fewer (valid .calls) s (documentIn c)) there in
+    omega (arith, few, docs-length t, valid .sound .count)
 
-  module _ (fine : r ≡ texts.Good) (f : Found) (is : IsFound t s f) where
-    short : isShort h && isShort allow && isShort sandbox ≡ true
-    short = rw (le-leb (length h) textBytes (are .good fine .0), le-leb (length allow) textBytes (are .good fine .1), le-leb (length sandbox) textBytes (are .good fine .2))
+module _ (t : Table) (s : ℕ) (x : OriginText) (has : Bool) (sandbox : List ℕ) where
+  refuses-frame : (n : Refusal) → ((h o : Text) (a : Attributes) → a .hasSandbox ≡ has → a .sandbox ≡ sandbox → x ≡ originAs (originOf o) → GoodTexts h o a → outcome (framedLoad s h o a) (view t) ≡ refuse n) → IsFrameRoom t s x has sandbox (frame.Refused n)
+  refuses-frame n f = record { refuses = λ m e h o a p q read good. (let w : n ≡ m = cc in f h o a p q read good ∙ ap refuse w); places = λ p e h o a u v read good. clash cc }
 
-    good-o : isGoodOrigin (originOf o) ≡ true
-    good-o = good-is o x (isBad x) false read refl (are .good fine .3)
+  module _ (valid : Valid t) (f : Found) (is : IsFound t s f) where
+    pub frame-closed : f ≡ found.None → IsFrameRoom t s x has sandbox (frame.Refused NotLoaded)
+    frame-closed k = refuses-frame NotLoaded (λ h o a p q read good. framed-closed s h o a (view t) (good .short) (good .origin) (good .src) (is .none-at k))
 
-    good-src : isGoodOrigin (originOf src) ≡ true
-    good-src = good-is src y (isBad y) false read-src refl (are .good fine .4)
+    module _ (i : ℕ) (c : Document) (k : f ≡ found.At i) (at : IsRecordAt t i c) (boxed out : Bool) (box : IsSandboxed (c .sandboxed) has sandbox boxed) (tested : out ≡ isBarred boxed x) where
+      in-box : (a : Attributes) → a .hasSandbox ≡ has → a .sandbox ≡ sandbox → boxed ≡ frameSandboxed (documentIn c .identity) a
+      in-box a p q = box .says a p q ∙ sym (frame-sandboxed (documentIn c .identity) a ∙ rw (document-sandboxed c) refl)
 
-    pub framed-none : f ≡ found.None → Loads (framedLoad s h o (attributes allow marks sandbox src)) t (record { answer = loading.Refused NotLoaded; table = t })
-    framed-none k =
-        let a = attributes allow marks sandbox src in
-        refused-load (framedLoad s h o a) t NotLoaded valid (framed-closed s h o a (view t) short good-o good-src (is .none-at k))
+      barred-is : (o : Text) (b : Bool) → x ≡ originAs (originOf o) → out ≡ b → isBarred boxed (originAs (originOf o)) ≡ b
+      barred-is o b read q = ap (isBarred boxed) (sym read) ∙ (sym tested ∙ q)
 
-    module _ (i : ℕ) (c : Document) (k : f ≡ found.At i) (e : c ≡ getD (t .docs) i noDocument) (boxed out : Bool) (box : IsSandboxed (c .sandboxed) (marks .«has_sandbox») sandbox boxed) (tested : out ≡ isBarred boxed x) where
-      in-box : boxed ≡ frameSandboxed (documentIn c .identity) (attributes allow marks sandbox src)
-      in-box =
-          let a = attributes allow marks sandbox src in
-          box .says a refl refl ∙ sym (frame-sandboxed (documentIn c .identity) a ∙ rw (document-sandboxed c) refl)
+      pub frame-barred : out ≡ true → IsFrameRoom t s x has sandbox (frame.Refused Sandbox)
+      frame-barred w =
+          refuses-frame Sandbox
+          (λ h o a p q read good.
+          framed-sandbox s h o a (view t) (good .short) (good .origin) (good .src) (documentIn c) (found-record t s f i c is k at) (sym (in-box a p q) ∙ barred (originOf o) boxed (barred-is o true read w)) (not-null (originOf o) boxed (barred-is o true read w)))
 
-      pub framed-barred : out ≡ true → Loads (framedLoad s h o (attributes allow marks sandbox src)) t (record { answer = loading.Refused Sandbox; table = t })
-      framed-barred q =
-          let a = attributes allow marks sandbox src in
-          let w : isBarred boxed (originAs (originOf o)) ≡ true = ap (isBarred boxed) (sym read) ∙ (sym tested ∙ q) in
-          refused-load (framedLoad s h o a) t Sandbox valid
-          (framed-sandbox s h o a (view t) short good-o good-src (documentIn c) (found-record t s f i c is k e) (sym in-box ∙ barred (originOf o) boxed w) (not-null (originOf o) boxed w))
+      module _ (free : out ≡ false) (rm : Room) (r : IsRoom t rm) where
+        is-load : (h o : Text) (a : Attributes) → a .hasSandbox ≡ has → a .sandbox ≡ sandbox → x ≡ originAs (originOf o) → GoodTexts h o a
+            → outcome (framedLoad s h o a) (view t) ≡ loadOf (view t) (isMalformed h) (framedDocument (documentIn c) h a) (framedIdentity (documentIn c .identity) a (originOf o))
+        is-load h o a p q read good =
+            framed-load s h o a (view t) (good .short) (good .origin) (good .src) (documentIn c) (found-record t s f i c is k at) (ap (λ (z : Bool). not z || isNull (originOf o)) (sym (in-box a p q)) ∙ let-in (originOf o) boxed (barred-is o false read free))
 
-      module _ (free : out ≡ false) (rm : Room) (has : IsRoom t rm) where
-        framed-is-load : outcome (framedLoad s h o (attributes allow marks sandbox src)) (view t) ≡ loadOf (view t) (isMalformed h) (framedDocument (documentIn c) h (attributes allow marks sandbox src)) (framedIdentity (documentIn c .identity) (attributes allow marks sandbox src) (originOf o))
-        framed-is-load =
-            let a = attributes allow marks sandbox src in
-            let w : isBarred boxed (originAs (originOf o)) ≡ false = ap (isBarred boxed) (sym read) ∙ (sym tested ∙ free) in
-            framed-load s h o a (view t) short good-o good-src (documentIn c) (found-record t s f i c is k e) (ap (λ (z : Bool). not z || isNull (originOf o)) (sym in-box) ∙ let-in (originOf o) boxed w)
+        pub frame-refused : (n : Refusal) → rm ≡ room.Refused n → IsFrameRoom t s x has sandbox (frame.Refused n)
+        frame-refused n e = refuses-frame n (λ h o a p q read good. is-load h o a p q read good ∙ r .none n e (isMalformed h) (framedDocument (documentIn c) h a) (framedIdentity (documentIn c .identity) a (originOf o)))
 
-        pub framed-refused : (n : Refusal) → rm ≡ room.Refused n → Loads (framedLoad s h o (attributes allow marks sandbox src)) t (record { answer = loading.Refused n; table = t })
-        framed-refused n q =
-            let a = attributes allow marks sandbox src in
-            refused-load (framedLoad s h o a) t n valid (framed-is-load ∙ has .none n q (isMalformed h) (framedDocument (documentIn c) h a) (framedIdentity (documentIn c .identity) a (originOf o)))
+        placed : (n : ℕ) → rm ≡ room.Serial n → (h o : Text) (a : Attributes) → a .hasSandbox ≡ has → a .sandbox ≡ sandbox → x ≡ originAs (originOf o) → GoodTexts h o a → IsFramePlace t s h o a (record { container = i; serial = n })
+        placed n e h o a p q read good =
+            record {
+              has = record { sound = valid .sound; place = is .some-at i k .0; room = r .serial n e .1; left = r .serial n e .2 };
+              above = subst (λ (d : Document). length (documentIn d .identity .above) < documentLimit) (at .is) (found-shallow t s c valid (found-record t s f i c is k at));
+              serial = r .serial n e .0;
+              loads = subst (λ (d : Document). outcome (framedLoad s h o a) (view t) ≡ loadOf (view t) (isMalformed h) (framedDocument (documentIn d) h a) (framedIdentity (documentIn d .identity) a (originOf o))) (at .is) (is-load h o a p q read good);
+            }
 
-        pub framed-accepted : (n : ℕ) (kept : Kept) (new : Document) (u : Table) → rm ≡ room.Serial n → IsKept h kept → IsFramedDocument c o (kept .bytes) y (attributes allow marks sandbox src) n new → IsPushed t new u
-            → Loads (framedLoad s h o (attributes allow marks sandbox src)) t (record { answer = loading.Loaded (record { serial = n; malformed = kept .malformed }); table = u })
-        framed-accepted n kept new u q keeps at p =
-            let a = attributes allow marks sandbox src in
-            accepted-load (framedLoad s h o a) t u new (isMalformed h) (kept .malformed) n (framedDocument (documentIn c) h a) (framedIdentity (documentIn c .identity) a (originOf o)) valid framed-is-load (has .serial n q .1) (has .serial n q .2) (has .serial n q .0) (keeps .malformed) (at .says h read-src (keeps .says)) p
+        pub frame-placed : (n : ℕ) → rm ≡ room.Serial n → IsFrameRoom t s x has sandbox (frame.At (record { container = i; serial = n }))
+        frame-placed n e =
+            record {
+              refuses = λ m w h o a p q read good. clash cc;
+              places = λ p w h o a u v read good.
+                  let same : _≡_ {A = FramePlace} (record { container = i; serial = n }) p = cc in
+                  subst (IsFramePlace t s h o a) same (placed n e h o a u v read good);
+            }
+
+-- ---- every refusal
+
+short-header : (h : Text) (b c : Bool) → isShort h && b && c ≡ true → length h ≤ textBytes
+short-header h b c e = leb-true (length h) textBytes (first (isShort h) b c e)
+  where
+    first : (x y z : Bool) → x && y && z ≡ true → x ≡ true
+    first true y z e = refl
+    first false y z e = e
+
+module _ (t : Table) (s : ℕ) (x y : OriginText) (marks : FrameMarks) (allow sandbox h : List ℕ) (are : Texts) (good : AreTexts h allow sandbox x y are) where
+  pub admitted-texts : (n : Refusal) → are ≡ texts.Refused n → IsAdmitted t s x y marks allow sandbox h (frame.Refused n)
+  admitted-texts n e =
+      record {
+        refuses = λ m w o src read read-src. (let q : n ≡ m = cc in good .refuses n e s o (attributes allow marks sandbox src) (view t) refl refl read read-src ∙ ap refuse q);
+        places = λ p w o src read read-src. clash cc;
+      }
+
+  pub admitted-room : (r : FrameRoom) → are ≡ texts.Good → IsFrameRoom t s x (marks .«has_sandbox») sandbox r → IsAdmitted t s x y marks allow sandbox h r
+  admitted-room r e is =
+      record {
+        refuses = λ m w o src read read-src. is .refuses m w h o (attributes allow marks sandbox src) refl refl read (good .good e o (attributes allow marks sandbox src) refl refl read read-src);
+        places = λ p w o src read read-src.
+            let g = good .good e o (attributes allow marks sandbox src) refl refl read read-src in
+            (is .places p w h o (attributes allow marks sandbox src) refl refl read g, short-header h (isShort allow) (isShort sandbox) (g .short));
+      }
+
+-- ---- the load
+
+pub loads-at : (t : Table) (p : FramePlace) (x y : OriginText) (h o allow : Text) (marks : FrameMarks) (sandbox src : Text) (c : Document) (new : NewDocument) (u : Table)
+    → IsRecordAt t (p .container) c → IsFramedDocument c x o h y (attributes allow marks sandbox src) (p .serial) new → IsPushed t (new .document) u
+    → LoadsAt t p x y h o (attributes allow marks sandbox src) (record { answer = loading.Loaded (record { serial = p .serial; malformed = new .malformed }); table = u })
+loads-at t p x y h o allow marks sandbox src c new u at made pushed =
+    let a = attributes allow marks sandbox src in
+    record {
+      says = λ s valid read read-src le here.
+          let above : length (documentIn c .identity .above) < documentLimit = subst (λ (d : Document). length (documentIn d .identity .above) < documentLimit) (sym (at .is)) (here .above) in
+          let loads = subst (λ (d : Document). outcome (framedLoad s h o a) (view t) ≡ loadOf (view t) (isMalformed h) (framedDocument (documentIn d) h a) (framedIdentity (documentIn d .identity) a (originOf o))) (sym (at .is)) (here .loads) in
+          accepted-load (framedLoad s h o a) t u (new .document) (isMalformed h) (new .malformed) (p .serial) (framedDocument (documentIn c) h a) (framedIdentity (documentIn c .identity) a (originOf o)) valid loads (here .has .room) (here .has .left) (here .serial) (made .malformed le) (made .says le (at .deep) above read read-src) pushed;
+    }
+
+module _ (t : Table) (s : ℕ) (h o allow : Text) (marks : FrameMarks) (sandbox src : Text) (x y : OriginText) (read : x ≡ originAs (originOf o)) (read-src : y ≡ originAs (originOf src)) (r : FrameRoom) (is : IsAdmitted t s x y marks allow sandbox h r) where
+  pub framed-refused : (n : Refusal) → Valid t → r ≡ frame.Refused n → Loads (framedLoad s h o (attributes allow marks sandbox src)) t (record { answer = loading.Refused n; table = t })
+  framed-refused n valid e = refused-load (framedLoad s h o (attributes allow marks sandbox src)) t n valid (is .refuses n e o src read read-src)
+
+  pub framed-place : (p : FramePlace) → r ≡ frame.At p → HasPlace t p
+  framed-place p e = is .places p e o src read read-src .0 .has
+
+  pub framed-accepted : (p : FramePlace) (l : Loading) → Valid t → r ≡ frame.At p → LoadsAt t p x y h o (attributes allow marks sandbox src) l → Loads (framedLoad s h o (attributes allow marks sandbox src)) t l
+  framed-accepted p l valid e at =
+      let here = is .places p e o src read read-src in
+      at .says s valid read read-src (here .1) (here .0)

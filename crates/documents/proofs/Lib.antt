@@ -1,5 +1,4 @@
 pub mod Answering
+pub mod Forecasts
 pub mod FramedLoads
-pub mod Frames
 pub mod Loads
-pub mod Nesting

@@ -19,7 +19,7 @@ use Rattle.document_records.specs.Records.{ownOrigin, documentIn, recordPolicy}
 use Rattle.document_records.specs.declared.Document.{Document}
 use Rattle.document_model.specs.Model.{Text, Table as ModelTable, Identity, Document as ModelDocument, Answer, decision, askedAt, isGoodOrigin, isShort, framedLoad, Outcome, refuse, load as loadOf, outcome, framedDocument, framedIdentity}
 use Rattle.document_table.specs.declared.Table.{Table}
-use Rattle.document_table.specs.Tables.{recordAt, view}
+use Rattle.document_table.specs.Tables.{recordAt, view, Sound}
 use Rattle.document_loads.specs.declared.FrameMarks.{FrameMarks}
 use Rattle.document_loads.specs.Loads.{attributes}
 use Rattle.documents.specs.declared.Room.{Room}
@@ -29,6 +29,8 @@ use Rattle.documents.specs.declared.Texts.the-variants as texts
 use Rattle.documents.specs.declared.FramePlace.{FramePlace}
 use Rattle.documents.specs.declared.FrameRoom.{FrameRoom}
 use Rattle.documents.specs.declared.FrameRoom.the-variants as frame
+use Rattle.documents.specs.declared.Loading.{Loading}
+use Rattle.documents.specs.Answers.{Valid, Loads}
 
 -- the answer of a decision
 abbrev pub decisionAnswer : DecisionOut → Answer
@@ -75,13 +77,18 @@ pub record AreTexts (h allow sandbox : List ℕ) (x y : OriginText) (r : Texts) 
   pub refuses : (n : Refusal) → r ≡ texts.Refused n → (s : ℕ) (o : Text) (a : Attributes) (t : ModelTable) → a .allow ≡ allow → a .sandbox ≡ sandbox → x ≡ originAs (originOf o) → y ≡ originAs (originOf (a .src)) → outcome (framedLoad s h o a) t ≡ refuse n
   pub good : r ≡ texts.Good → (o : Text) (a : Attributes) → a .allow ≡ allow → a .sandbox ≡ sandbox → x ≡ originAs (originOf o) → y ≡ originAs (originOf (a .src)) → GoodTexts h o a
 
--- a place and a serial for a load in a frame of the document there
-pub record IsFramePlace (t : Table) (s : ℕ) (h o : Text) (a : Attributes) (p : FramePlace) : Type 0 where
+-- a document at the place, room for one more and a serial
+pub record HasPlace (t : Table) (p : FramePlace) : Type 0 where
+  pub sound : Sound t
   pub place : p .container < t .count
-  pub above : length (documentIn (recordAt t (p .container)) .identity .above) < documentLimit
-  pub serial : p .serial ≡ t .next
   pub room : t .count < documentLimit
   pub left : t .next ≤ lastSerial
+
+-- where a framed load goes: into a frame of the document there, with the next serial
+pub record IsFramePlace (t : Table) (s : ℕ) (h o : Text) (a : Attributes) (p : FramePlace) : Type 0 where
+  pub has : HasPlace t p
+  pub above : length (documentIn (recordAt t (p .container)) .identity .above) < documentLimit
+  pub serial : p .serial ≡ t .next
   pub loads : outcome (framedLoad s h o a) (view t) ≡ loadOf (view t) (isMalformed h) (framedDocument (documentIn (recordAt t (p .container))) h a) (framedIdentity (documentIn (recordAt t (p .container)) .identity) a (originOf o))
 
 -- refusals 1, 5, 6 and 7 of every framed load with good texts and that sandbox attribute, or where it goes
@@ -93,3 +100,7 @@ pub record IsFrameRoom (t : Table) (s : ℕ) (x : OriginText) (has : Bool) (sand
 pub record IsAdmitted (t : Table) (s : ℕ) (x y : OriginText) (marks : FrameMarks) (allow sandbox h : List ℕ) (r : FrameRoom) : Type 0 where
   pub refuses : (n : Refusal) → r ≡ frame.Refused n → (o src : Text) → x ≡ originAs (originOf o) → y ≡ originAs (originOf src) → outcome (framedLoad s h o (attributes allow marks sandbox src)) (view t) ≡ refuse n
   pub places : (p : FramePlace) → r ≡ frame.At p → (o src : Text) → x ≡ originAs (originOf o) → y ≡ originAs (originOf src) → IsFramePlace t s h o (attributes allow marks sandbox src) p × (length h ≤ textBytes)
+
+-- the load at a place where it goes
+pub record LoadsAt (t : Table) (p : FramePlace) (x y : OriginText) (h o : Text) (a : Attributes) (r : Loading) : Type 0 where
+  pub says : (s : ℕ) → Valid t → x ≡ originAs (originOf o) → y ≡ originAs (originOf (a .src)) → length h ≤ textBytes → IsFramePlace t s h o a p → Loads (framedLoad s h o a) t r

@@ -7,7 +7,7 @@ ghost use Rattle.limits.specs.Limits.{documentLimit};
 ghost use Rattle.document_table.specs.Tables.{view};
 ghost use Rattle.document_loads.specs.Loads.{attributes};
 ghost use Rattle.documents.specs.Answers.{Valid, questionIn, featuresIn, Loads, Unloads, Lists};
-ghost use Rattle.documents.specs.Steps.{decisionAnswer, isBad, Asks, isBadAtTop, IsRoom, isBarred, AreTexts, IsFrameRoom, IsAdmitted};
+ghost use Rattle.documents.specs.Steps.{decisionAnswer, isBad, Asks, isBadAtTop, IsRoom, isBarred, AreTexts, IsFrameRoom, IsAdmitted, HasPlace, LoadsAt};
 use decisions::Decision;
 use document_loads::FrameMarks;
 use document_records::Document;
@@ -297,14 +297,13 @@ pub fn load_top(t: Table, origin: &[u8], header: &[u8]) -> Loading
             table: t,
         },
         Room::Serial(n) => {
-            let k = document_loads::settle_header(header);
-            let bytes = k.bytes;
-            let d = document_loads::top_document(n, said, origin, bytes);
+            let new = document_loads::top_document(n, said, origin, header);
+            let d = new.document;
             let u = document_table::push(t, d);
             Loading {
                 answer: LoadAnswer::Loaded(LoadedDocument {
                     serial: n,
-                    malformed: k.malformed,
+                    malformed: new.malformed,
                 }),
                 table: u,
             }
@@ -402,6 +401,38 @@ fn frame_admitted(
     }
 }
 
+// A document is loaded at its place, in a frame of the document there.
+fn load_at(
+    t: Table,
+    p: FramePlace,
+    said: OriginText,
+    origin: &[u8],
+    src_said: OriginText,
+    src: &[u8],
+    marks: FrameMarks,
+    allow: &[u8],
+    sandbox: &[u8],
+    header: &[u8],
+) -> Loading
+    requires { ⌜ HasPlace t p ⌝ }
+    ensures { λ r. ⌜ LoadsAt t p said «src_said» (now (header .entry)) (now (origin .entry)) (attributes (now (allow .entry)) marks (now (sandbox .entry)) (now (src .entry))) r ⌝ }
+{
+    let c = document_table::document_at(t, p.container);
+    let serial = p.serial;
+    let new = document_loads::framed_document(
+        c, serial, said, origin, src_said, src, marks, allow, sandbox, header,
+    );
+    let d = new.document;
+    let u = document_table::push(t, d);
+    Loading {
+        answer: LoadAnswer::Loaded(LoadedDocument {
+            serial,
+            malformed: new.malformed,
+        }),
+        table: u,
+    }
+}
+
 // A document is loaded in a frame of another.
 pub fn load_framed(
     t: Table,
@@ -423,21 +454,8 @@ pub fn load_framed(
             answer: LoadAnswer::Refused(n),
             table: t,
         },
-        FrameRoom::At(p) => {
-            let c = document_table::document_at(t, p.container);
-            let k = document_loads::settle_header(header);
-            let bytes = k.bytes;
-            let d = document_loads::framed_document(
-                c, p.serial, said, origin, src_said, src, marks, allow, sandbox, bytes,
-            );
-            let u = document_table::push(t, d);
-            Loading {
-                answer: LoadAnswer::Loaded(LoadedDocument {
-                    serial: p.serial,
-                    malformed: k.malformed,
-                }),
-                table: u,
-            }
-        }
+        FrameRoom::At(p) => load_at(
+            t, p, said, origin, src_said, src, marks, allow, sandbox, header,
+        ),
     }
 }

@@ -9,4 +9,5 @@ top-document-spec =
     tie.close
     (tie.spec
     (λ c κs. search needs)
+    (λ c κs. search needs)
     (λ c. search is-top))

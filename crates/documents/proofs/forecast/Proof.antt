@@ -1,6 +1,6 @@
 -- `forecast` is right: each return is a row of the definition, in its order.
 use Rattle.documents.proofs.Answering.{found-place}
-use Rattle.documents.proofs.Frames.{forecast-allow, forecast-sandbox, forecast-origin, refused-forecast, answered-forecast}
+use Rattle.documents.proofs.Forecasts.{forecast-allow, forecast-sandbox, forecast-origin, refused-forecast, answered-forecast}
 use borrow.Author.Needs.{needs}
 use Rattle.documents.proofs.forecast.Statement.{statement}
 use Rattle.documents.proofs.forecast.Tie as tie

@@ -16,7 +16,6 @@ load-top-spec =
     (λ c. search needs)
     (λ c. search needs)
     (λ c κs. search needs)
-    (λ c κs. search needs)
     (λ c κs. (search needs, search room-count, search room-next, search needs))
     (λ c. search top-refused)
     (λ c. search top-accepted))
