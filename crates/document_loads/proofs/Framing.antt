@@ -96,7 +96,7 @@ pub is-framed : (c : Document) (o h : List ℕ) (n : ℕ) (said x : OriginText) 
     → IsAtMost (c .depth) 15 k
     → IsAbove c k above
     → IsFramedDocument c said o h x (attributes allow marks sandbox src) n
-      (record { document = record { serial = n; above = above; depth = k + 1; origin = at .origin; text = at .text; sandboxed = b; inherited = m; header = kept .bytes }; malformed = kept .malformed })
+    (record { document = record { serial = n; above = above; depth = k + 1; origin = at .origin; text = at .text; sandboxed = b; inherited = m; header = kept .bytes }; malformed = kept .malformed })
 is-framed c o h n said x allow marks sandbox src b same d at m k above kept keeps box ds arrives is i most up =
     let a = attributes allow marks sandbox src in
     let f = frameOf (documentIn c .identity) a in

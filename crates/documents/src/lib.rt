@@ -420,7 +420,16 @@ fn load_at(
     let c = document_table::document_at(t, p.container);
     let serial = p.serial;
     let new = document_loads::framed_document(
-        c, serial, said, origin, src_said, src, marks, allow, sandbox, header,
+        c,
+        serial,
+        said,
+        origin,
+        src_said,
+        src,
+        marks,
+        allow,
+        sandbox,
+        header,
     );
     let d = new.document;
     let u = document_table::push(t, d);
@@ -455,7 +464,16 @@ pub fn load_framed(
             table: t,
         },
         FrameRoom::At(p) => load_at(
-            t, p, said, origin, src_said, src, marks, allow, sandbox, header,
+            t,
+            p,
+            said,
+            origin,
+            src_said,
+            src,
+            marks,
+            allow,
+            sandbox,
+            header,
         ),
     }
 }
