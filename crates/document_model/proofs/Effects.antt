@@ -121,6 +121,25 @@ same-table t u c a n e (all-removed s) = clash cc
 pub refused-keeps : (c : Call) (t : Table) (n : Refusal) → answerTo c t ≡ refused n → tableLeft c t ≡ t
 refused-keeps c t n e = same-table t (tableLeft c t) c (answerTo c t) n e (effect c t)
 
+-- and so does a question of any kind
+abbrev pub asksOnly : Call → Bool
+asksOnly (topLoad h o) = false
+asksOnly (framedLoad c h o a) = false
+asksOnly (unload s) = false
+asksOnly (question s f o) = true
+asksOnly (enabledFeatures s) = true
+asksOnly (listing s run) = true
+asksOnly (forecastOf c a) = true
+
+asked-table : (t u : Table) (c : Call) (a : Answer) → asksOnly c ≡ true → Effect t c a u → u ≡ t
+asked-table t u c a e (nothing-else g v l r) = refl
+asked-table t u c a e (top-loaded h o m p q) = clash cc
+asked-table t u c a e (frame-loaded k h o b m d i q p z) = clash cc
+asked-table t u c a e (all-removed s) = clash cc
+
+pub asked-keeps : (c : Call) (t : Table) → asksOnly c ≡ true → tableLeft c t ≡ t
+asked-keeps c t e = asked-table t (tableLeft c t) c (answerTo c t) e (effect c t)
+
 -- ---- numbers
 
 pub record Counted (es : List Event) (t : Table) : Type 0 where

@@ -27,6 +27,7 @@ use Rattle.decisions.specs.Policies.{Policy, Frame, questionIn, inheritedIn, en
 use Rattle.decisions.proofs.Laws.{inherited-as-fresh, mask-back, mask-below, enabled-at, enabled-past, enabled-undeclared, forecast-is, forecast-past}
 use Rattle.document_model.specs.Runs.{leftBy}
 use Rattle.document_model.specs.Model.{Text, isGoodOrigin, isNull, arrivesAt, Identity, Document, valuesFrom, declaredBy, policyOf, frameSandboxed, frameDeclared, frameOf, orFresh, Table, find, Call, framedLoad, question, enabledFeatures, forecastOf, Answer, refused, loaded, decision, features, Outcome, accept, refuseUnless, withDocument, textsFit, load, framedIdentity, framedDocument, fittingOutcome, outcome, answerIn, answerTo, tableLeft, tableAfter}
+use Rattle.document_model.specs.Answering.{theModel}
 use Rattle.document_model.specs.Claims.{isAccepted, AtDeclared, as-src, as-null}
 use Rattle.document_model.proofs.Booleans.{is-true, not-either}
 use Rattle.document_model.proofs.OriginTexts.{good-not}
@@ -39,7 +40,7 @@ pub data DeclaredText (t : Table) (c : ℕ) (a : Attributes) : Text → Type 0 w
   src-text : DeclaredText t c a (a .src)
   null-text : answerTo (framedLoad c [] (a .src) a) t ≡ refused Sandbox → DeclaredText t c a nullText
 
-declared-text : {cs : List Call} {c : ℕ} {a : Attributes} {o : Text} → AtDeclared cs c a o → DeclaredText (tableAfter cs) c a o
+declared-text : {cs : List Call} {c : ℕ} {a : Attributes} {o : Text} → AtDeclared theModel cs c a o → DeclaredText (tableAfter cs) c a o
 declared-text as-src = src-text
 declared-text (as-null e) = null-text e
 
@@ -263,7 +264,7 @@ arrived t i c h o a m s bad e at l =
 -- at the declared origin, that is accepted has exactly the forecast's features enabled
 pub forecast-comes-true : (cs : List Call) (c : ℕ) (o : Text) (a : Attributes) (m s : ℕ) (bad : Bool) →
     answerTo (forecastOf c a) (tableAfter cs) ≡ features m →
-    AtDeclared cs c a o →
+    AtDeclared theModel cs c a o →
     answerTo (framedLoad c [] o a) (tableAfter (cs ++ (forecastOf c a ∷ []))) ≡ loaded s bad →
     answerTo (enabledFeatures s) (tableAfter (cs ++ (forecastOf c a ∷ framedLoad c [] o a ∷ []))) ≡ features m
 unfolding leftBy

@@ -1,4 +1,4 @@
--- Demand 3 and document 01's sentences on the table: seven claims about every list of calls on a new table, refused calls included. They are proved in `proofs/Claims`.
+-- Demand 3 and document 01's sentences on the table: seven claims about every list of calls on a new table, refused calls included, whoever answers them. `proofs/Claims` proves them of the model.
 use mathlib.Core.Path.{_≡_}
 use Prim.Native.Nat.{ℕ, _+_, _<_, _≤_}
 use mathlib.Core.Bool.{Bool, true, false}
@@ -23,19 +23,20 @@ use Rattle.decisions.specs.Masks.{decisionAt}
 use Rattle.decisions.specs.Policies.{Policy, Frame, questionIn, inheritedIn, enabledMask, forecast}
 use Rattle.decisions.specs.Widening.{Stays}
 use Rattle.document_model.specs.Runs.{Each}
-use Rattle.document_model.specs.Model.{Text, isGoodOrigin, arrivesAt, orFresh, valuesFrom, Call, topLoad, framedLoad, unload, question, enabledFeatures, listing, forecastOf, Answer, refused, loaded, removed, decision, features, serials, runAfter, answers, answerAfter, answersAfter}
-use Rattle.document_model.specs.History.{Event, Happened, BeneathIn, LoadedIn, SandboxedIn, history, acceptedLoads, unloadSum, given, Exactly, AreLoaded, AreBeneath}
+use Rattle.document_model.specs.Model.{Text, isGoodOrigin, arrivesAt, orFresh, valuesFrom, Call, topLoad, framedLoad, unload, question, enabledFeatures, listing, forecastOf, Answer, refused, loaded, removed, decision, features, serials, runAfter}
+use Rattle.document_model.specs.History.{Event, Happened, BeneathIn, LoadedIn, SandboxedIn, acceptedLoads, unloadSum, given, Exactly, AreLoaded, AreBeneath}
+use Rattle.document_model.specs.Answering.{Answering}
 use Rattle.document_model.specs.Refusals.{Row, refusalOf, First}
 
 -- ---- 1. Disabled flows down
 
 -- "if after it a loaded document is Disabled for a feature at its own origin, every document beneath it is Disabled for it at every origin, then and after any further calls, while both stay loaded":
 -- the document d after the calls cs, the document e after the further calls ds, which may be none. If e is loaded and beneath d, then d is loaded
-abbrev pub DisabledFlowsDown : Type 0
-DisabledFlowsDown =
-    (cs ds : List Call) (d e f : ℕ) → answerAfter cs (question d f []) ≡ decision disabled
-    → LoadedIn (history (cs ++ ds)) e → BeneathIn (history (cs ++ ds)) e d
-    → (o : Text) → isGoodOrigin (originOf o) ≡ true → answerAfter (cs ++ ds) (question e f o) ≡ decision disabled
+abbrev pub DisabledFlowsDown : Answering → Type 0
+DisabledFlowsDown who =
+    (cs ds : List Call) (d e f : ℕ) → who .answerAfter cs (question d f []) ≡ decision disabled
+    → LoadedIn (who .history (cs ++ ds)) e → BeneathIn (who .history (cs ++ ds)) e d
+    → (o : Text) → isGoodOrigin (originOf o) ≡ true → who .answerAfter (cs ++ ds) (question e f o) ≡ decision disabled
 
 -- ---- 2. More never takes away
 
@@ -62,11 +63,11 @@ pub data Keeps : Answer → Answer → Type 0 where
   bits-stay : {m n : ℕ} → ((f : ℕ) → Stays (decisionAt m f) (decisionAt n f)) → Keeps (features m) (features n)
 
 -- "take any two such lists, alike except in one call, accepted in both"
-abbrev pub MoreNeverTakesAway : Type 0
-MoreNeverTakesAway =
+abbrev pub MoreNeverTakesAway : Answering → Type 0
+MoreNeverTakesAway who =
     (before : List Call) (c d : Call) (behind : List Call) → OneMore c d
-    → isAccepted (answerAfter before c) ≡ true → isAccepted (answerAfter before d) ≡ true
-    → Each Keeps (answers (before ++ (c ∷ behind))) (answers (before ++ (d ∷ behind)))
+    → isAccepted (who .answerAfter before c) ≡ true → isAccepted (who .answerAfter before d) ≡ true
+    → Each Keeps (who .answers (before ++ (c ∷ behind))) (who .answers (before ++ (d ∷ behind)))
 
 -- ---- 3. Serials, counts, listings
 
@@ -75,44 +76,44 @@ pub record Listed (n : ℕ) (run′ run l : List ℕ) : Type 0 where
   pub count : n ≡ length l
   pub run-afterwards : run′ ≡ l ++ drop (length l) run
 
-pub record SerialsAndCounts : Type 0 where
+pub record SerialsAndCounts (who : Answering) : Type 0 where
   -- "Each accepted load gives the next serial, from 1; serials are never used again."
-  pub serials-in-order : (cs : List Call) → given (answers cs) ≡ valuesFrom (λ n. n) 1 (length (given (answers cs)))
+  pub serials-in-order : (cs : List Call) → given (who .answers cs) ≡ valuesFrom (λ n. n) 1 (length (given (who .answers cs)))
   -- "The number loaded equals accepted loads minus the sum of the unload answers."
-  pub number-loaded : (cs : List Call) (l : List ℕ) → AreLoaded (history cs) l → length l + unloadSum (history cs) ≡ acceptedLoads (history cs)
+  pub number-loaded : (cs : List Call) (l : List ℕ) → AreLoaded (who .history cs) l → length l + unloadSum (who .history cs) ≡ acceptedLoads (who .history cs)
   -- "At most 16 documents"
-  pub at-most-sixteen : (cs : List Call) (l : List ℕ) → AreLoaded (history cs) l → length l ≤ documentLimit
+  pub at-most-sixteen : (cs : List Call) (l : List ℕ) → AreLoaded (who .history cs) l → length l ≤ documentLimit
   -- "the serials beneath a document, ascending"
-  pub listing-exactly : (cs : List Call) (s n : ℕ) (run run′ l : List ℕ) → answerAfter cs (listing s run) ≡ serials n run′ → AreBeneath (history cs) s l → Listed n run′ run l
+  pub listing-exactly : (cs : List Call) (s n : ℕ) (run run′ l : List ℕ) → who .answerAfter cs (listing s run) ≡ serials n run′ → AreBeneath (who .history cs) s l → Listed n run′ run l
   -- "Unloading removes a document and all beneath it and answers how many": "it must equal the documents that went", those loaded before and not after
-  pub unload-answers : (cs : List Call) (s n : ℕ) (l : List ℕ) → answerAfter cs (unload s) ≡ removed n
-      → Exactly (λ e. LoadedIn (history cs) e × (LoadedIn (history (cs ++ (unload s ∷ []))) e → ⊥)) l → n ≡ length l
+  pub unload-answers : (cs : List Call) (s n : ℕ) (l : List ℕ) → who .answerAfter cs (unload s) ≡ removed n
+      → Exactly (λ e. LoadedIn (who .history cs) e × (LoadedIn (who .history (cs ++ (unload s ∷ []))) e → ⊥)) l → n ≡ length l
   -- and there are such lists
-  pub some-loaded : (cs : List Call) → (l : List ℕ) × AreLoaded (history cs) l
-  pub some-beneath : (cs : List Call) (s : ℕ) → (l : List ℕ) × AreBeneath (history cs) s l
-  pub some-removed : (cs : List Call) (s n : ℕ) → answerAfter cs (unload s) ≡ removed n → (l : List ℕ) × Exactly (λ e. LoadedIn (history cs) e × (LoadedIn (history (cs ++ (unload s ∷ []))) e → ⊥)) l
+  pub some-loaded : (cs : List Call) → (l : List ℕ) × AreLoaded (who .history cs) l
+  pub some-beneath : (cs : List Call) (s : ℕ) → (l : List ℕ) × AreBeneath (who .history cs) s l
+  pub some-removed : (cs : List Call) (s n : ℕ) → who .answerAfter cs (unload s) ≡ removed n → (l : List ℕ) × Exactly (λ e. LoadedIn (who .history cs) e × (LoadedIn (who .history (cs ++ (unload s ∷ []))) e → ⊥)) l
 
 -- ---- 4. A forecast comes true
 
 -- an origin text with which a frame's document arrives at the declared origin: the src text; or `null` where the load with the src text is refused with 5, and so the declared origin is fresh.
 -- Two that arrive there as well aren't spoken of: for an empty src the container's own origin in full, and the empty text for a src that is the container's own origin in full
-pub data AtDeclared (cs : List Call) (c : ℕ) (a : Attributes) : Text → Type 0 where
-  as-src : AtDeclared cs c a (a .src)
-  as-null : answerAfter cs (framedLoad c [] (a .src) a) ≡ refused Sandbox → AtDeclared cs c a nullText
+pub data AtDeclared (who : Answering) (cs : List Call) (c : ℕ) (a : Attributes) : Text → Type 0 where
+  as-src : AtDeclared who cs c a (a .src)
+  as-null : who .answerAfter cs (framedLoad c [] (a .src) a) ≡ refused Sandbox → AtDeclared who cs c a nullText
 
-pub record ForecastComesTrue : Type 0 where
+pub record ForecastComesTrue (who : Answering) : Type 0 where
   -- "A *forecast* is what a frame would inherit at its declared origin": a load right after it with the same container and attributes, at the declared origin and with an empty header,
   -- has exactly the forecast's features enabled
   pub comes-true : (cs : List Call) (c : ℕ) (o : Text) (a : Attributes) (m s : ℕ) (malformed : Bool)
-      → answerAfter cs (forecastOf c a) ≡ features m
-      → AtDeclared cs c a o
-      → answerAfter (cs ++ (forecastOf c a ∷ [])) (framedLoad c [] o a) ≡ loaded s malformed
-      → answerAfter (cs ++ (forecastOf c a ∷ framedLoad c [] o a ∷ [])) (enabledFeatures s) ≡ features m
+      → who .answerAfter cs (forecastOf c a) ≡ features m
+      → AtDeclared who cs c a o
+      → who .answerAfter (cs ++ (forecastOf c a ∷ [])) (framedLoad c [] o a) ≡ loaded s malformed
+      → who .answerAfter (cs ++ (forecastOf c a ∷ framedLoad c [] o a ∷ [])) (enabledFeatures s) ≡ features m
   -- "as a number with bit n for feature n": a forecast has no other bit
-  pub forecast-bits : (cs : List Call) (c : ℕ) (a : Attributes) (m n : ℕ) → answerAfter cs (forecastOf c a) ≡ features m → featureCount ≤ n → decisionAt m n ≡ disabled
+  pub forecast-bits : (cs : List Call) (c : ℕ) (a : Attributes) (m n : ℕ) → who .answerAfter cs (forecastOf c a) ≡ features m → featureCount ≤ n → decisionAt m n ≡ disabled
   -- "the features enabled at a document's own origin as one 32-bit number, bit n for feature n and no other bit"
-  pub bit-answers : (cs : List Call) (s m n : ℕ) → answerAfter cs (enabledFeatures s) ≡ features m → n < featureCount → answerAfter cs (question s n []) ≡ decision (decisionAt m n)
-  pub no-other-bit : (cs : List Call) (s m n : ℕ) → answerAfter cs (enabledFeatures s) ≡ features m → featureCount ≤ n → decisionAt m n ≡ disabled
+  pub bit-answers : (cs : List Call) (s m n : ℕ) → who .answerAfter cs (enabledFeatures s) ≡ features m → n < featureCount → who .answerAfter cs (question s n []) ≡ decision (decisionAt m n)
+  pub no-other-bit : (cs : List Call) (s m n : ℕ) → who .answerAfter cs (enabledFeatures s) ≡ features m → featureCount ≤ n → decisionAt m n ≡ disabled
 
 -- ---- 5. Refusals, exactly
 
@@ -127,29 +128,29 @@ pub data AnswerFits : Call → Answer → Type 0 where
   listing-fits : {s n : ℕ} {run run′ : List ℕ} → AnswerFits (listing s run) (serials n run′)
   forecast-fits : {c m : ℕ} {a : Attributes} → AnswerFits (forecastOf c a) (features m)
 
-pub record RefusalsExactly : Type 0 where
+pub record RefusalsExactly (who : Answering) : Type 0 where
   -- "Given exactly when (and no earlier row of the order applies)"
-  pub refused-by-first : (cs : List Call) (c : Call) (n : Refusal) → answerAfter cs c ≡ refused n → (r : Row) × First (history cs) c r × (refusalOf r ≡ n)
-  pub first-is-refused : (cs : List Call) (c : Call) (r : Row) → First (history cs) c r → answerAfter cs c ≡ refused (refusalOf r)
+  pub refused-by-first : (cs : List Call) (c : Call) (n : Refusal) → who .answerAfter cs c ≡ refused n → (r : Row) × First (who .history cs) c r × (refusalOf r ≡ n)
+  pub first-is-refused : (cs : List Call) (c : Call) (r : Row) → First (who .history cs) c r → who .answerAfter cs c ≡ refused (refusalOf r)
   -- "A refusal returns only its number and changes nothing."
-  pub refused-changes-nothing : (cs : List Call) (c : Call) (n : Refusal) (ds : List Call) → answerAfter cs c ≡ refused n → answersAfter (cs ++ (c ∷ [])) ds ≡ answersAfter cs ds
+  pub refused-changes-nothing : (cs : List Call) (c : Call) (n : Refusal) (ds : List Call) → who .answerAfter cs c ≡ refused n → who .answersAfter (cs ++ (c ∷ [])) ds ≡ who .answersAfter cs ds
   -- and so a refused listing leaves the lent run as it was
-  pub refused-keeps-run : (cs : List Call) (s : ℕ) (run : List ℕ) (n : Refusal) → answerAfter cs (listing s run) ≡ refused n → runAfter (answerAfter cs (listing s run)) run ≡ run
+  pub refused-keeps-run : (cs : List Call) (s : ℕ) (run : List ℕ) (n : Refusal) → who .answerAfter cs (listing s run) ≡ refused n → runAfter (who .answerAfter cs (listing s run)) run ≡ run
   -- a call that isn't refused has an answer of its own kind: a load its serial, an unload how many, a question Enabled or Disabled, and so on
-  pub answer-fits : (cs : List Call) (c : Call) → AnswerFits c (answerAfter cs c)
+  pub answer-fits : (cs : List Call) (c : Call) → AnswerFits c (who .answerAfter cs c)
 
 -- ---- 6. Settled at load
 
-pub record SettledAtLoad : Type 0 where
+pub record SettledAtLoad (who : Answering) : Type 0 where
   -- "A malformed header declares nothing, and the load says so."
-  pub top-says : (cs : List Call) (h o : Text) (s : ℕ) (malformed : Bool) → answerAfter cs (topLoad h o) ≡ loaded s malformed → malformed ≡ isMalformed h
-  pub framed-says : (cs : List Call) (c : ℕ) (h o : Text) (a : Attributes) (s : ℕ) (malformed : Bool) → answerAfter cs (framedLoad c h o a) ≡ loaded s malformed → malformed ≡ isMalformed h
+  pub top-says : (cs : List Call) (h o : Text) (s : ℕ) (malformed : Bool) → who .answerAfter cs (topLoad h o) ≡ loaded s malformed → malformed ≡ isMalformed h
+  pub framed-says : (cs : List Call) (c : ℕ) (h o : Text) (a : Attributes) (s : ℕ) (malformed : Bool) → who .answerAfter cs (framedLoad c h o a) ≡ loaded s malformed → malformed ≡ isMalformed h
   -- "Policies are settled at load.": a document that is loaded before further calls and after them answers the same, for every feature and every origin text
-  pub question-settled : (cs ds : List Call) (s : ℕ) → LoadedIn (history cs) s → LoadedIn (history (cs ++ ds)) s
-      → (f : ℕ) (o : Text) → answerAfter (cs ++ ds) (question s f o) ≡ answerAfter cs (question s f o)
-  pub enabled-settled : (cs ds : List Call) (s : ℕ) → LoadedIn (history cs) s → LoadedIn (history (cs ++ ds)) s → answerAfter (cs ++ ds) (enabledFeatures s) ≡ answerAfter cs (enabledFeatures s)
+  pub question-settled : (cs ds : List Call) (s : ℕ) → LoadedIn (who .history cs) s → LoadedIn (who .history (cs ++ ds)) s
+      → (f : ℕ) (o : Text) → who .answerAfter (cs ++ ds) (question s f o) ≡ who .answerAfter cs (question s f o)
+  pub enabled-settled : (cs ds : List Call) (s : ℕ) → LoadedIn (who .history cs) s → LoadedIn (who .history (cs ++ ds)) s → who .answerAfter (cs ++ ds) (enabledFeatures s) ≡ who .answerAfter cs (enabledFeatures s)
   -- and so do forecasts of its frames
-  pub forecast-settled : (cs ds : List Call) (s : ℕ) → LoadedIn (history cs) s → LoadedIn (history (cs ++ ds)) s → (a : Attributes) → answerAfter (cs ++ ds) (forecastOf s a) ≡ answerAfter cs (forecastOf s a)
+  pub forecast-settled : (cs ds : List Call) (s : ℕ) → LoadedIn (who .history cs) s → LoadedIn (who .history (cs ++ ds)) s → (a : Attributes) → who .answerAfter (cs ++ ds) (forecastOf s a) ≡ who .answerAfter cs (forecastOf s a)
 
 -- ---- 7. Answers as demand 2 defines them: by a policy that the calls and answers alone tell
 
@@ -186,14 +187,14 @@ pub data AskedAt (own : Origin) : OriginSaid → Origin → Type 0 where
   at-fresh : AskedAt own saysNull fresh
   at-tuple : (o : TupleOrigin) → AskedAt own (saysTuple o) (tuple o)
 
-pub record AnswersAsDefined : Type 0 where
+pub record AnswersAsDefined (who : Answering) : Type 0 where
   -- "*Question*"
-  pub question-as-defined : (cs : List Call) (s f : ℕ) (o : Text) (d : Decision) → answerAfter cs (question s f o) ≡ decision d
-      → (p : Policy) × PolicyIn (history cs) s p × ((x : Origin) × AskedAt (p .own) (originOf o) x × (d ≡ questionIn p f x))
+  pub question-as-defined : (cs : List Call) (s f : ℕ) (o : Text) (d : Decision) → who .answerAfter cs (question s f o) ≡ decision d
+      → (p : Policy) × PolicyIn (who .history cs) s p × ((x : Origin) × AskedAt (p .own) (originOf o) x × (d ≡ questionIn p f x))
   -- "the features enabled at a document's own origin as one 32-bit number"
-  pub enabled-as-defined : (cs : List Call) (s m : ℕ) → answerAfter cs (enabledFeatures s) ≡ features m → (p : Policy) × PolicyIn (history cs) s p × (m ≡ enabledMask p)
+  pub enabled-as-defined : (cs : List Call) (s m : ℕ) → who .answerAfter cs (enabledFeatures s) ≡ features m → (p : Policy) × PolicyIn (who .history cs) s p × (m ≡ enabledMask p)
   -- "A *forecast* is what a frame would inherit at its declared origin"
-  pub forecast-as-defined : (cs : List Call) (c : ℕ) (a : Attributes) (m : ℕ) → answerAfter cs (forecastOf c a) ≡ features m
-      → (p : Policy) × PolicyIn (history cs) c p × ((mark : Bool) × MarkedIn (history cs) c mark × (m ≡ forecast p (frameIn p mark a)))
+  pub forecast-as-defined : (cs : List Call) (c : ℕ) (a : Attributes) (m : ℕ) → who .answerAfter cs (forecastOf c a) ≡ features m
+      → (p : Policy) × PolicyIn (who .history cs) c p × ((mark : Bool) × MarkedIn (who .history cs) c mark × (m ≡ forecast p (frameIn p mark a)))
   -- and there is one such policy
-  pub one-policy : (cs : List Call) (s : ℕ) (p q : Policy) → PolicyIn (history cs) s p → PolicyIn (history cs) s q → p ≡ q
+  pub one-policy : (cs : List Call) (s : ℕ) (p q : Policy) → PolicyIn (who .history cs) s p → PolicyIn (who .history cs) s q → p ≡ q

@@ -1,0 +1,126 @@
+-- A run of the code over a list of calls has the model's answers, lent runs and table. Assumes nothing.
+use mathlib.Core.Path.{_≡_, refl, ap, sym, _∙_, fun-ext}
+use Prim.Native.Nat.{ℕ}
+use mathlib.Core.List.{List, [], _∷_}
+use Rattle.document_model.specs.Runs.{leftBy, answersBy}
+use Rattle.document_model.specs.Model.{Call, question, enabledFeatures, listing, forecastOf, Answer, runAfter, answerTo, tableLeft, tableAfter, answers}
+use Rattle.document_model.specs.Answering.{theModel, byAnswers}
+use Rattle.document_model.proofs.Laws.{by-answers, asked-keeps}
+use Rattle.document_table.specs.declared.Table.{Table}
+use Rattle.document_table.specs.Tables.{view}
+use Rattle.documents.specs.declared.QuestionAnswer.{QuestionAnswer}
+use Rattle.documents.specs.declared.QuestionAnswer.the-variants as asked
+use Rattle.documents.specs.declared.FeaturesAnswer.{FeaturesAnswer}
+use Rattle.documents.specs.declared.FeaturesAnswer.the-variants as mask
+use Rattle.documents.specs.declared.LoadAnswer.{LoadAnswer}
+use Rattle.documents.specs.declared.LoadAnswer.the-variants as load
+use Rattle.documents.specs.declared.UnloadAnswer.{UnloadAnswer}
+use Rattle.documents.specs.declared.UnloadAnswer.the-variants as unload
+use Rattle.documents.specs.declared.ListingAnswer.{ListingAnswer}
+use Rattle.documents.specs.declared.ListingAnswer.the-variants as listed
+use Rattle.documents.specs.Answers.{Valid, questionIn, featuresIn, loadIn, unloadIn, listingIn, Lists}
+use Rattle.documents.specs.Runs.{Step, load-top, load-framed, unloads, asks, enables, lists, forecasts, Steps, no-more, then, Run, AnsweredByCode, lentRun, runsAfter}
+
+-- one call
+step-answer : {c : Call} {t u : Table} {a : Answer} {run : List ℕ} → Step c t a run u → a ≡ answerTo c (view t)
+step-answer (load-top h) = h .answer
+step-answer (load-framed h) = h .answer
+step-answer (unloads h) = h .answer
+step-answer (asks r h) = h
+step-answer (enables r h) = h
+step-answer (lists r h) = h .answer
+step-answer (forecasts r h) = h
+
+step-table : {c : Call} {t u : Table} {a : Answer} {run : List ℕ} → Step c t a run u → view u ≡ tableLeft c (view t)
+step-table (load-top h) = h .table
+step-table (load-framed h) = h .table
+step-table (unloads h) = h .table
+step-table (asks {s} {f} {o} {t} r h) = sym (asked-keeps (question s f o) (view t) refl)
+step-table (enables {s} {t} r h) = sym (asked-keeps (enabledFeatures s) (view t) refl)
+step-table (lists {s} {run} {after} {t} r h) = sym (asked-keeps (listing s run) (view t) refl)
+step-table (forecasts {c} {a} {t} r h) = sym (asked-keeps (forecastOf c a) (view t) refl)
+
+-- each table is one that the calls left: what each function requires
+pub step-valid : {c : Call} {t u : Table} {a : Answer} {run : List ℕ} → Step c t a run u → Valid t → Valid u
+step-valid (load-top h) v = h .valid
+step-valid (load-framed h) v = h .valid
+step-valid (unloads h) v = h .valid
+step-valid (asks r h) v = v
+step-valid (enables r h) v = v
+step-valid (lists r h) v = v
+step-valid (forecasts r h) v = v
+
+-- the lent run is as the answer has it
+load-run : (r : LoadAnswer) → [] ≡ runAfter (loadIn r) []
+load-run (load.Loaded d) = refl
+load-run (load.Refused n) = refl
+
+unload-run : (r : UnloadAnswer) → [] ≡ runAfter (unloadIn r) []
+unload-run (unload.Removed n) = refl
+unload-run (unload.Refused n) = refl
+
+question-run : (r : QuestionAnswer) → [] ≡ runAfter (questionIn r) []
+question-run asked.Enabled = refl
+question-run asked.Disabled = refl
+question-run (asked.Refused n) = refl
+
+features-run : (r : FeaturesAnswer) → [] ≡ runAfter (featuresIn r) []
+features-run (mask.Features m) = refl
+features-run (mask.Refused n) = refl
+
+listing-run : (c : Call) (t : Table) (run after : List ℕ) (r : ListingAnswer) → Lists c t run after r → after ≡ runAfter (listingIn r after) run
+listing-run c t run after (listed.Count n) h = refl
+listing-run c t run after (listed.Refused n) h = h .refusal n refl
+
+step-run : {c : Call} {t u : Table} {a : Answer} {run : List ℕ} → Step c t a run u → run ≡ runAfter a (lentRun c)
+step-run (load-top {r = r} h) = load-run (r .answer)
+step-run (load-framed {r = r} h) = load-run (r .answer)
+step-run (unloads {r = r} h) = unload-run (r .answer)
+step-run (asks r h) = question-run r
+step-run (enables r h) = features-run r
+step-run (lists {s} {run} {after} {t} r h) = listing-run _ t run after r h
+step-run (forecasts r h) = features-run r
+
+-- calls one after the other
+module _ where
+  steps-answers : {cs : List Call} {t v : Table} {l : List Answer} {runs : List (List ℕ)} → Steps cs t l runs v → l ≡ answersBy answerTo tableLeft cs (view t)
+  unfolding answersBy
+  steps-answers no-more = refl
+  steps-answers (then {c} {cs} {t} {u} {a = a} {l = l} s ss) =
+      ap (λ (x : Answer). x ∷ l) (step-answer s)
+      ∙ ap (λ (m : List Answer). answerTo c (view t) ∷ m) (steps-answers ss ∙ ap (answersBy answerTo tableLeft cs) (step-table s))
+
+  steps-left : {cs : List Call} {t v : Table} {l : List Answer} {runs : List (List ℕ)} → Steps cs t l runs v → view v ≡ leftBy tableLeft cs (view t)
+  unfolding leftBy
+  steps-left no-more = refl
+  steps-left (then {c} {cs} s ss) = steps-left ss ∙ ap (leftBy tableLeft cs) (step-table s)
+
+  steps-runs : {cs : List Call} {t v : Table} {l : List Answer} {runs : List (List ℕ)} → Steps cs t l runs v → runs ≡ runsAfter cs l
+  unfolding runsAfter
+  steps-runs no-more = refl
+  steps-runs (then {c} {cs} {a = a} {l = l} {runs = runs} s ss) = ap (λ (x : List ℕ). x ∷ runs) (step-run s) ∙ ap (λ (m : List (List ℕ)). runAfter a (lentRun c) ∷ m) (steps-runs ss)
+
+  steps-valid : {cs : List Call} {t v : Table} {l : List Answer} {runs : List (List ℕ)} → Steps cs t l runs v → Valid t → Valid v
+  steps-valid no-more h = h
+  steps-valid (then s ss) h = steps-valid ss (step-valid s h)
+
+-- ---- a run of the code
+
+module _ {cs : List Call} {l : List Answer} (r : Run cs l) where
+  pub run-answers : l ≡ answers cs
+  unfolding answers
+  run-answers = steps-answers (r .steps) ∙ ap (answersBy answerTo tableLeft cs) (r .new)
+
+  pub run-table : view (r .left) ≡ tableAfter cs
+  unfolding tableAfter
+  run-table = steps-left (r .steps) ∙ ap (leftBy tableLeft cs) (r .new)
+
+  pub run-runs : r .runs ≡ runsAfter cs (answers cs)
+  run-runs = steps-runs (r .steps) ∙ ap (runsAfter cs) run-answers
+
+  pub run-valid : Valid (r .left)
+  run-valid = steps-valid (r .steps) (r .valid)
+
+-- whatever answers as the code does is the model
+pub code-is-model : (f : List Call → List Answer) → AnsweredByCode f → byAnswers f ≡ theModel
+code-is-model f h = ap byAnswers (fun-ext (λ cs. run-answers (h cs))) ∙ by-answers
