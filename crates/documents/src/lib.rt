@@ -172,10 +172,10 @@ pub fn unload(t: Table, serial: u32) -> Unloading
                 table: u,
             }
         }
-        Found::None => Unloading {
-            answer: UnloadAnswer::Refused(Refusal::NotLoaded),
-            table: t,
-        },
+        Found::None => {
+            let answer = UnloadAnswer::Refused(Refusal::NotLoaded);
+            Unloading { answer, table: t }
+        }
     }
 }
 
