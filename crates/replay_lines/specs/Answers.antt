@@ -13,7 +13,7 @@ use Rattle.origins.specs.Ports.{decimal}
 use Rattle.containers.specs.Attributes.{Attributes}
 use Rattle.replay_lines.specs.Format.{Text, Line, Sandbox, Said, nothing}
 use Rattle.replay_lines.specs.Format.Line.{top, frame, unload, ask, enabled, beneath, forecast, tidy, badLine}
-use Rattle.replay_lines.specs.Reading.{Field, Reading, fieldLimit, fieldBytes, keepByte, fieldByte, isWhole, keptSays}
+use Rattle.replay_lines.specs.Reading.{Field, Reading, fieldLimit, fieldBytes, lineBytes, keepByte, fieldByte, isWhole, keptSays}
 use Rattle.replay_lines.specs.Reading.Reading.{reading, tooMany}
 use Rattle.replay_lines.specs.declared.FieldState.{FieldState}
 use Rattle.replay_lines.specs.declared.LineState.{LineState}
@@ -77,6 +77,12 @@ pub record IsByteRead (run : List ℕ) (j : ℕ) (f : FieldState) (b : ℕ) (aft
 unfoldable pub saidIn : List ℕ → Fields → List Said
 saidIn run fs = map keptSays (fieldsFrom run 0 (take (fs .count) (fs .list)))
 
+-- a line's fields and a run with a part for each
+pub record Ready (fs : Fields) (run : List ℕ) : Type 0 where
+  pub places : length (fs .list) ≡ fieldLimit
+  pub most : fs .count ≤ fieldLimit
+  pub room : length run ≡ lineBytes
+
 -- the field at a place of a line, whatever the run
 pub record IsFieldAt (fs : Fields) (j : ℕ) (r : FieldState) : Type 0 where
   pub says : (run : List ℕ) → keptSays (fieldIn run j r) ≡ getD (saidIn run fs) j nothing
@@ -97,19 +103,19 @@ literalAs f = isWhole (f .place) && not (f .escaped)
 unfoldable pub upto : ℕ → Text → Option ℕ
 upto most u = pick (not (isEmpty u) && every isDigit u && leb (decimal u) most) (some (decimal u)) none
 
-abbrev pub digitsAs : Option ℕ → Digits
-digitsAs (some n) = digits.Number n
-digitsAs none = digits.None
+abbrev pub digitsIn : Digits → Option ℕ
+digitsIn (digits.Number n) = some n
+digitsIn digits.None = none
 
 -- ---- the answers of the readings of a field
 
-abbrev pub numberAs : Option ℕ → NumberField
-numberAs (some n) = number.Number n
-numberAs none = number.None
+abbrev pub numberIn : NumberField → Option ℕ
+numberIn (number.Number n) = some n
+numberIn number.None = none
 
-abbrev pub markAs : Option Bool → MarkField
-markAs (some b) = mark.Mark b
-markAs none = mark.None
+abbrev pub markIn : MarkField → Option Bool
+markIn (mark.Mark b) = some b
+markIn mark.None = none
 
 abbrev pub textIn : List ℕ → TextField → Option Text
 textIn run (textual.Text r) = some (partIn run r)

@@ -36,7 +36,7 @@ rows =
     ∷ row "top" ("" ∷ "" ∷ []) (top [] [])
     ∷ row "top" ("%6eull" ∷ "a%09b%0A%25%fF" ∷ []) (top (text "null") (97 ∷ 9 ∷ 98 ∷ 10 ∷ 37 ∷ 255 ∷ []))
     ∷ row "frame" ("1" ∷ "null" ∷ "https://b" ∷ "1" ∷ "camera" ∷ "1allow-%73" ∷ "usb=*" ∷ [])
-      (frame 1 (text "null") (attributes "https://b" true "camera" true "allow-s") (text "usb=*"))
+    (frame 1 (text "null") (attributes "https://b" true "camera" true "allow-s") (text "usb=*"))
     ∷ row "frame" ("0" ∷ "" ∷ "" ∷ "0" ∷ "" ∷ "1" ∷ "" ∷ []) (frame 0 [] (attributes "" false "" true "") [])
     ∷ row "frame" ("0" ∷ "" ∷ "" ∷ "0" ∷ "" ∷ "0" ∷ "" ∷ []) (frame 0 [] (attributes "" false "" false "") [])
     ∷ row "unload" ("4294967295" ∷ []) (unload 4294967295)

@@ -28,6 +28,10 @@ keptText = textBytes + 1
 abbrev pub fieldBytes : ℕ
 fieldBytes = textBytes + 2
 
+-- a run has a part for each field
+abbrev pub lineBytes : ℕ
+lineBytes = fieldLimit * fieldBytes
+
 -- what was read of a field: the bytes that are kept, whether it has a `%`, whether a `%` is its first byte, and where in a `%` it stands
 pub record Field : Type 0 where
   pub kept : Text

@@ -2,10 +2,10 @@
 ghost use mathlib.Core.Path.{_≡_};
 ghost use Prim.Native.Nat.{ℕ, _+_, _≤_, _<_, min};
 ghost use mathlib.Core.List.{List};
-ghost use lib.ListN.{getD};
+ghost use lib.ListN.{length, getD};
 ghost use Rattle.replay_lines.specs.Format.{isHex, hexValue, hexByte, numberOf, markOf, nameOf, nothing, numberAt, markAt, textAt, sandboxAt, attributesAt, topRow, frameRow, unloadRow, askRow, enabledRow, beneathRow, forecastRow, tidyRow, callOf};
-ghost use Rattle.replay_lines.specs.Reading.{fieldLimit, newReading, readOn, isWhole, lineFrom};
-ghost use Rattle.replay_lines.specs.Answers.{freshField, movedAs, literalAs, keptIn, readingIn, IsKept, IsByteRead, IsFieldAt, upto, digitsAs, numberAs, markAs, textIn, sandboxIn, attributeFieldsIn, saidIn, lineIn};
+ghost use Rattle.replay_lines.specs.Reading.{fieldLimit, lineBytes, newReading, readOn, isWhole, lineFrom};
+ghost use Rattle.replay_lines.specs.Answers.{freshField, movedAs, literalAs, keptIn, readingIn, IsKept, IsByteRead, IsFieldAt, Ready, upto, digitsIn, numberIn, markIn, textIn, sandboxIn, attributeFieldsIn, saidIn, lineIn};
 use ascii::TextRange;
 use limits::TEXT_BYTES;
 
@@ -216,8 +216,8 @@ pub fn new_line() -> LineState
 }
 
 // Keeps a byte of a field, if there is room; the answer is how many are kept.
-fn keep(kept: usize, b: u8, number: usize, run: &mut [u8; LINE_BYTES]) -> usize
-    requires { ⌜ number < fieldLimit ⌝ }
+fn keep(kept: usize, b: u8, number: usize, run: &mut [u8]) -> usize
+    requires { ⌜ (number < fieldLimit) × (length (now run) ≡ lineBytes) ⌝ }
     ensures { λ r. ⌜ IsKept (now (run .entry)) number kept b (now (run .exit)) r ⌝ }
 {
     if kept < FIELD_BYTES {
@@ -240,8 +240,8 @@ fn moved(f: FieldState, place: Place) -> FieldState
 }
 
 // A byte that stands for itself, or a `%`.
-fn plain_byte(f: FieldState, b: u8, number: usize, run: &mut [u8; LINE_BYTES]) -> FieldState
-    requires { ⌜ (number < fieldLimit) × (f .place ≡ Place.Plain) ⌝ }
+fn plain_byte(f: FieldState, b: u8, number: usize, run: &mut [u8]) -> FieldState
+    requires { ⌜ (number < fieldLimit) × (length (now run) ≡ lineBytes) × (f .place ≡ Place.Plain) ⌝ }
     ensures { λ r. ⌜ IsByteRead (now (run .entry)) number f b (now (run .exit)) r ⌝ }
 {
     if b == b'%' {
@@ -262,8 +262,8 @@ fn plain_byte(f: FieldState, b: u8, number: usize, run: &mut [u8; LINE_BYTES]) -
 }
 
 // A byte of a field that is no TAB.
-fn read_byte(f: FieldState, b: u8, number: usize, run: &mut [u8; LINE_BYTES]) -> FieldState
-    requires { ⌜ number < fieldLimit ⌝ }
+fn read_byte(f: FieldState, b: u8, number: usize, run: &mut [u8]) -> FieldState
+    requires { ⌜ (number < fieldLimit) × (length (now run) ≡ lineBytes) ⌝ }
     ensures { λ r. ⌜ IsByteRead (now (run .entry)) number f b (now (run .exit)) r ⌝ }
 {
     let place = f.place;
@@ -292,8 +292,8 @@ fn read_byte(f: FieldState, b: u8, number: usize, run: &mut [u8; LINE_BYTES]) ->
     }
 }
 
-// Reads the next piece of a line, without its line feed; its texts are kept in the run.
-pub fn read(state: LineState, piece: &[u8], run: &mut [u8; LINE_BYTES]) -> LineState
+fn read_piece(state: LineState, piece: &[u8], run: &mut [u8]) -> LineState
+    requires { ⌜ length (now run) ≡ lineBytes ⌝ }
     ensures { λ r. ⌜ readingIn (now (run .exit)) r ≡ readOn (readingIn (now (run .entry)) state) (now (piece .entry)) ⌝ }
 {
     let mut ended = state.ended;
@@ -326,9 +326,16 @@ pub fn read(state: LineState, piece: &[u8], run: &mut [u8; LINE_BYTES]) -> LineS
     }
 }
 
+// Reads the next piece of a line, without its line feed; its texts are kept in the run.
+pub fn read(state: LineState, piece: &[u8], run: &mut [u8; LINE_BYTES]) -> LineState
+    ensures { λ r. ⌜ readingIn (now (run .exit)) r ≡ readOn (readingIn (now (run .entry)) state) (now (piece .entry)) ⌝ }
+{
+    read_piece(state, piece, run)
+}
+
 // Digits, read in decimal, worth at most so much; none is no number.
 fn decimal(t: &[u8], most: u64) -> Digits
-    ensures { λ r. ⌜ r ≡ digitsAs (upto most (now (t .entry))) ⌝ }
+    ensures { λ r. ⌜ digitsIn r ≡ upto most (now (t .entry)) ⌝ }
 {
     if t.len() == 0 {
         return Digits::None;
@@ -355,7 +362,7 @@ fn decimal(t: &[u8], most: u64) -> Digits
 
 // A number: decimal, with no leading zero.
 fn number(t: &[u8]) -> NumberField
-    ensures { λ r. ⌜ r ≡ numberAs (numberOf (now (t .entry))) ⌝ }
+    ensures { λ r. ⌜ numberIn r ≡ numberOf (now (t .entry)) ⌝ }
 {
     if origins::leads_zero(t) {
         return NumberField::None;
@@ -368,7 +375,7 @@ fn number(t: &[u8]) -> NumberField
 
 // FULLSCREEN: `0` or `1`.
 fn mark(t: &[u8]) -> MarkField
-    ensures { λ r. ⌜ r ≡ markAs (markOf (now (t .entry))) ⌝ }
+    ensures { λ r. ⌜ markIn r ≡ markOf (now (t .entry)) ⌝ }
 {
     if ascii::same(t, b"0") {
         return MarkField::Mark(false);
@@ -436,8 +443,8 @@ fn least(a: usize, b: usize) -> usize
 }
 
 // The bytes that a field keeps.
-fn kept(n: usize, j: usize, run: &[u8; LINE_BYTES]) -> &[u8]
-    requires { ⌜ j < fieldLimit ⌝ }
+fn kept(n: usize, j: usize, run: &[u8]) -> &[u8]
+    requires { ⌜ (j < fieldLimit) × (length (now run) ≡ lineBytes) ⌝ }
     ensures { λ r. ⌜ now r ≡ keptIn (now (run .entry)) j n ⌝ }
 {
     let from = j * FIELD_BYTES;
@@ -464,8 +471,8 @@ fn is_literal(f: FieldState) -> bool
     is_whole(p) & !f.escaped
 }
 
-fn name_at(fs: Fields, j: usize, run: &[u8; LINE_BYTES]) -> CallName
-    requires { ⌜ j < fieldLimit ⌝ }
+fn name_at(fs: Fields, j: usize, run: &[u8]) -> CallName
+    requires { ⌜ (j < fieldLimit) × (length (now run) ≡ lineBytes) ⌝ }
     ensures { λ r. ⌜ r ≡ getD (saidIn (now (run .entry)) fs) j nothing .name ⌝ }
 {
     let f = field_at(fs, j);
@@ -476,9 +483,9 @@ fn name_at(fs: Fields, j: usize, run: &[u8; LINE_BYTES]) -> CallName
     }
 }
 
-fn number_at(fs: Fields, j: usize, run: &[u8; LINE_BYTES]) -> NumberField
-    requires { ⌜ j < fieldLimit ⌝ }
-    ensures { λ r. ⌜ r ≡ numberAs (numberAt (saidIn (now (run .entry)) fs) j) ⌝ }
+fn number_at(fs: Fields, j: usize, run: &[u8]) -> NumberField
+    requires { ⌜ (j < fieldLimit) × (length (now run) ≡ lineBytes) ⌝ }
+    ensures { λ r. ⌜ numberIn r ≡ numberAt (saidIn (now (run .entry)) fs) j ⌝ }
 {
     let f = field_at(fs, j);
     if is_literal(f) {
@@ -488,9 +495,9 @@ fn number_at(fs: Fields, j: usize, run: &[u8; LINE_BYTES]) -> NumberField
     }
 }
 
-fn mark_at(fs: Fields, j: usize, run: &[u8; LINE_BYTES]) -> MarkField
-    requires { ⌜ j < fieldLimit ⌝ }
-    ensures { λ r. ⌜ r ≡ markAs (markAt (saidIn (now (run .entry)) fs) j) ⌝ }
+fn mark_at(fs: Fields, j: usize, run: &[u8]) -> MarkField
+    requires { ⌜ (j < fieldLimit) × (length (now run) ≡ lineBytes) ⌝ }
+    ensures { λ r. ⌜ markIn r ≡ markAt (saidIn (now (run .entry)) fs) j ⌝ }
 {
     let f = field_at(fs, j);
     if is_literal(f) {
@@ -501,8 +508,8 @@ fn mark_at(fs: Fields, j: usize, run: &[u8; LINE_BYTES]) -> MarkField
 }
 
 // A text, at most one byte more of it than the limit.
-fn text_at(fs: Fields, j: usize, run: &[u8; LINE_BYTES]) -> TextField
-    requires { ⌜ j < fieldLimit ⌝ }
+fn text_at(fs: Fields, j: usize, run: &[u8]) -> TextField
+    requires { ⌜ (j < fieldLimit) × (length (now run) ≡ lineBytes) ⌝ }
     ensures { λ r. ⌜ textIn (now (run .entry)) r ≡ textAt (saidIn (now (run .entry)) fs) j ⌝ }
 {
     let f = field_at(fs, j);
@@ -520,8 +527,8 @@ fn text_at(fs: Fields, j: usize, run: &[u8; LINE_BYTES]) -> TextField
 }
 
 // SANDBOX: `0`, or `1` and the attribute's text.
-fn sandbox_at(fs: Fields, j: usize, run: &[u8; LINE_BYTES]) -> SandboxField
-    requires { ⌜ j < fieldLimit ⌝ }
+fn sandbox_at(fs: Fields, j: usize, run: &[u8]) -> SandboxField
+    requires { ⌜ (j < fieldLimit) × (length (now run) ≡ lineBytes) ⌝ }
     ensures { λ r. ⌜ sandboxIn (now (run .entry)) r ≡ sandboxAt (saidIn (now (run .entry)) fs) j ⌝ }
 {
     let f = field_at(fs, j);
@@ -551,8 +558,8 @@ fn sandbox_at(fs: Fields, j: usize, run: &[u8; LINE_BYTES]) -> SandboxField
 }
 
 // SRC FULLSCREEN ALLOW SANDBOX, from a place on.
-fn attributes_at(fs: Fields, j: usize, run: &[u8; LINE_BYTES]) -> AttributeFields
-    requires { ⌜ j + 3 < fieldLimit ⌝ }
+fn attributes_at(fs: Fields, j: usize, run: &[u8]) -> AttributeFields
+    requires { ⌜ (j + 3 < fieldLimit) × (length (now run) ≡ lineBytes) ⌝ }
     ensures { λ r. ⌜ attributeFieldsIn (now (run .entry)) r ≡ attributesAt (saidIn (now (run .entry)) fs) j ⌝ }
 {
     let TextField::Text(src) = text_at(fs, j, run) else {
@@ -575,7 +582,8 @@ fn attributes_at(fs: Fields, j: usize, run: &[u8; LINE_BYTES]) -> AttributeField
     })
 }
 
-fn top_line(fs: Fields, run: &[u8; LINE_BYTES]) -> Line
+fn top_line(fs: Fields, run: &[u8]) -> Line
+    requires { ⌜ Ready fs (now run) ⌝ }
     ensures { λ r. ⌜ lineIn (now (run .entry)) r ≡ topRow (saidIn (now (run .entry)) fs) ⌝ }
 {
     if fs.count != 3 {
@@ -590,7 +598,8 @@ fn top_line(fs: Fields, run: &[u8; LINE_BYTES]) -> Line
     Line::Top(TopLine { origin, header })
 }
 
-fn frame_line(fs: Fields, run: &[u8; LINE_BYTES]) -> Line
+fn frame_line(fs: Fields, run: &[u8]) -> Line
+    requires { ⌜ Ready fs (now run) ⌝ }
     ensures { λ r. ⌜ lineIn (now (run .entry)) r ≡ frameRow (saidIn (now (run .entry)) fs) ⌝ }
 {
     if fs.count != 8 {
@@ -616,7 +625,8 @@ fn frame_line(fs: Fields, run: &[u8; LINE_BYTES]) -> Line
     })
 }
 
-fn unload_line(fs: Fields, run: &[u8; LINE_BYTES]) -> Line
+fn unload_line(fs: Fields, run: &[u8]) -> Line
+    requires { ⌜ Ready fs (now run) ⌝ }
     ensures { λ r. ⌜ lineIn (now (run .entry)) r ≡ unloadRow (saidIn (now (run .entry)) fs) ⌝ }
 {
     if fs.count != 2 {
@@ -628,7 +638,8 @@ fn unload_line(fs: Fields, run: &[u8; LINE_BYTES]) -> Line
     Line::Unload(serial)
 }
 
-fn ask_line(fs: Fields, run: &[u8; LINE_BYTES]) -> Line
+fn ask_line(fs: Fields, run: &[u8]) -> Line
+    requires { ⌜ Ready fs (now run) ⌝ }
     ensures { λ r. ⌜ lineIn (now (run .entry)) r ≡ askRow (saidIn (now (run .entry)) fs) ⌝ }
 {
     if fs.count != 4 {
@@ -650,7 +661,8 @@ fn ask_line(fs: Fields, run: &[u8; LINE_BYTES]) -> Line
     })
 }
 
-fn enabled_line(fs: Fields, run: &[u8; LINE_BYTES]) -> Line
+fn enabled_line(fs: Fields, run: &[u8]) -> Line
+    requires { ⌜ Ready fs (now run) ⌝ }
     ensures { λ r. ⌜ lineIn (now (run .entry)) r ≡ enabledRow (saidIn (now (run .entry)) fs) ⌝ }
 {
     if fs.count != 2 {
@@ -662,7 +674,8 @@ fn enabled_line(fs: Fields, run: &[u8; LINE_BYTES]) -> Line
     Line::Enabled(serial)
 }
 
-fn beneath_line(fs: Fields, run: &[u8; LINE_BYTES]) -> Line
+fn beneath_line(fs: Fields, run: &[u8]) -> Line
+    requires { ⌜ Ready fs (now run) ⌝ }
     ensures { λ r. ⌜ lineIn (now (run .entry)) r ≡ beneathRow (saidIn (now (run .entry)) fs) ⌝ }
 {
     if fs.count != 3 {
@@ -677,7 +690,8 @@ fn beneath_line(fs: Fields, run: &[u8; LINE_BYTES]) -> Line
     Line::Beneath(BeneathLine { serial, room })
 }
 
-fn forecast_line(fs: Fields, run: &[u8; LINE_BYTES]) -> Line
+fn forecast_line(fs: Fields, run: &[u8]) -> Line
+    requires { ⌜ Ready fs (now run) ⌝ }
     ensures { λ r. ⌜ lineIn (now (run .entry)) r ≡ forecastRow (saidIn (now (run .entry)) fs) ⌝ }
 {
     if fs.count != 6 {
@@ -695,7 +709,8 @@ fn forecast_line(fs: Fields, run: &[u8; LINE_BYTES]) -> Line
     })
 }
 
-fn tidy_line(fs: Fields, run: &[u8; LINE_BYTES]) -> Line
+fn tidy_line(fs: Fields, run: &[u8]) -> Line
+    requires { ⌜ Ready fs (now run) ⌝ }
     ensures { λ r. ⌜ lineIn (now (run .entry)) r ≡ tidyRow (saidIn (now (run .entry)) fs) ⌝ }
 {
     if fs.count != 3 {
@@ -711,7 +726,8 @@ fn tidy_line(fs: Fields, run: &[u8; LINE_BYTES]) -> Line
 }
 
 // The call that a line's fields are, by its name.
-fn row(fs: Fields, run: &[u8; LINE_BYTES]) -> Line
+fn row(fs: Fields, run: &[u8]) -> Line
+    requires { ⌜ Ready fs (now run) ⌝ }
     ensures { λ r. ⌜ lineIn (now (run .entry)) r ≡ callOf (saidIn (now (run .entry)) fs) ⌝ }
 {
     match name_at(fs, 0, run) {
