@@ -146,7 +146,7 @@ enum Digits {
 }
 
 // The value of a digit.
-fn digit(b: u8) -> u32
+pub fn digit(b: u8) -> u32
     requires { ⌜ (48 ≤ b) × (b ≤ 57) ⌝ }
     ensures { λ r. ⌜ r ≡ b - 48 ⌝ }
 {
@@ -180,7 +180,7 @@ fn number(d: &[u8]) -> Digits
     Digits::Number(n)
 }
 
-fn leads_zero(d: &[u8]) -> bool
+pub fn leads_zero(d: &[u8]) -> bool
     ensures { λ r. ⌜ r ≡ leadsZero (now (d .entry)) ⌝ }
 {
     if 1 < d.len() { d[0] == b'0' } else { false }

@@ -1,0 +1,4 @@
+pub mod Slots
+pub mod FieldStates
+pub mod FieldReadings
+pub mod Choices

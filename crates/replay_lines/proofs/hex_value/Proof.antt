@@ -1,0 +1,43 @@
+use borrow.Author.Needs.{needs}
+use Rattle.replay_lines.proofs.hex_value.Statement.{statement}
+use Rattle.replay_lines.proofs.hex_value.Tie as tie
+use Rattle.replay_lines.proofs.hex_value.Reads as reads
+use Rattle.replay_lines.proofs.hex_value.Lts as lts
+use Rattle.ascii.proofs.is_digit.Reads as is-digit-reads
+
+is-digit-requires : tie.Need-is-digit-requires
+is-digit-requires c κs = search needs
+
+sub-result : tie.Need-sub-result
+sub-result c = search needs
+
+returns : tie.Need-returns
+returns c = ?
+
+sub-result-2 : tie.Need-sub-result-2
+sub-result-2 c = search needs
+
+returns-2 : tie.Need-returns-2
+returns-2 c = ?
+
+sub-result-3 : tie.Need-sub-result-3
+sub-result-3 c = search needs
+
+returns-3 : tie.Need-returns-3
+returns-3 c = ?
+
+returns-4 : tie.Need-returns-4
+returns-4 c = ?
+
+pub hex-value-spec : {M : Type 1} → statement M
+hex-value-spec =
+    tie.close
+    (tie.spec
+    is-digit-requires
+    sub-result
+    returns
+    sub-result-2
+    returns-2
+    sub-result-3
+    returns-3
+    returns-4)

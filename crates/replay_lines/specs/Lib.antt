@@ -1,0 +1,5 @@
+pub mod Format
+pub mod Reading
+pub mod Answers
+pub mod Computing
+pub mod Examples
