@@ -5,3 +5,4 @@ pub mod Compares
 pub mod Reading
 pub mod Looping
 pub mod Suffixes
+pub mod Decimals

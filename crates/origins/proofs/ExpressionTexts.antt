@@ -18,7 +18,8 @@ use Rattle.ascii.proofs.Bytes.{and-right}
 use Rattle.ascii.proofs.Texts.{same-is, part-in}
 use Rattle.ascii.proofs.Reading.{run-cut}
 use Rattle.origins.specs.Hosts.{isHost}
-use Rattle.origins.specs.Ports.{decimal, isNumber, isPortPart, portPartOf}
+use Rattle.ascii.specs.Decimals.{decimal}
+use Rattle.origins.specs.Ports.{isNumber, isPortPart, portPartOf}
 use Rattle.origins.specs.Origins.{schemeText, schemeSlashes, pastScheme, notColon}
 use Rattle.origins.specs.Expressions.{HostPart, SourceExpression, hostPartOf, schemeSource, hostSourceOf, startsLowered, expressionOf}
 use Rattle.origins.specs.Expressions.HostPart.{noHost, anyHost, exactHost, subdomainsOf}

@@ -16,7 +16,8 @@ use Rattle.ascii.specs.Texts.{sameBy, sameBytes, partOf}
 use Rattle.ascii.specs.Reading.{isEmpty, next}
 use Rattle.ascii.proofs.Bytes.{and-left, and-right}
 use Rattle.ascii.proofs.Texts.{bytes-same, same-bytes, part-in}
-use Rattle.origins.specs.Ports.{defaultPort, decimal, isNumber, leadsZero, isPort, originPort}
+use Rattle.ascii.specs.Decimals.{decimal, leadsZero}
+use Rattle.origins.specs.Ports.{defaultPort, isNumber, isPort, originPort}
 use Rattle.origins.specs.Origins.{TupleOrigin, Origin, schemeSlashes, nullText, originOf}
 use Rattle.origins.specs.Origins.Origin.{tuple, opaque, fresh}
 use Rattle.origins.specs.Origins.OriginSaid.{saysEmpty, saysNull, saysTuple}

@@ -1,4 +1,4 @@
--- Numbers in decimal: read digit by digit, and written. Assumes nothing.
+-- Ports in decimal, read digit by digit. Assumes nothing.
 use mathlib.Core.Path.{_≡_, refl, _∙_, sym}
 use Prim.Native.Nat.{ℕ, _+_, _-_, _*_, _≤_, _<_}
 use mathlib.Core.List.{List, [], _∷_}
@@ -17,15 +17,12 @@ use Rattle.ascii.specs.Texts.{every}
 use Rattle.ascii.specs.Bytes.{pick, isDigit}
 use Rattle.ascii.specs.Reading.{isEmpty, headOf}
 use Rattle.ascii.proofs.Bytes.{and-false, and-left, and-right, within-low, within-high}
-use Rattle.origins.specs.Ports.{decimalFrom, decimal, isNumber, isPortPart, leadsZero}
+use Rattle.ascii.specs.Decimals.{decimalFrom, decimal, leadsZero}
+use Rattle.ascii.proofs.Decimals.{decimal-grows}
+use Rattle.origins.specs.Ports.{isNumber, isPortPart}
 use Rattle.origins.specs.Steps.{portNumber, digitsAs}
 use Rattle.origins.specs.declared.Digits.{Digits}
 use Rattle.origins.specs.declared.Digits.the-variants as digits
-
-pub decimal-grows : (n : ℕ) (ds : List ℕ) → n ≤ decimalFrom n ds
-unfolding decimalFrom
-decimal-grows n [] = omega arith
-decimal-grows n (d ∷ ds) = omega (arith, decimal-grows (n * 10 + (d - 48)) ds)
 
 -- the reading of digits that stops where the number is too great
 unfoldable pub readFrom : ℕ → List ℕ → Option ℕ

@@ -7,8 +7,8 @@ use lib.ListN.{length, take, drop, set, replicate, length-set, length-append, le
 use lib.Seq.{drop-cons, take-set-le, take-take, drop-set-lt, getD-set-same}
 use borrow.Author.Tests.{lt-ltb, le-ltb}
 use Rattle.limits.specs.Limits.{portDigits}
-use Rattle.ascii.specs.Bytes.{pick}
-use Rattle.origins.specs.NormalForms.{lastDigits, portText}
+use Rattle.ascii.specs.Decimals.{digitsBy, lastDigits}
+use Rattle.origins.specs.NormalForms.{portText}
 use Rattle.origins.specs.Answers.{IsPortText}
 
 -- what is left to write, before what is written
@@ -22,11 +22,11 @@ pub writing-start : (n : ℕ) → Writing n (replicate portDigits 48) portDigits
 writing-start n = record { upto = omega arith; long = refl; zeros = refl; rest = append-nil (portText n) }
 
 digits-last : (k left : ℕ) → left < 10 → lastDigits (suc k) left ≡ (48 + left % 10) ∷ []
-unfolding lastDigits pick
+unfolding lastDigits digitsBy
 digits-last k left h = let e : left % 10 ≡ left = omega arith in rw (lt-ltb left 10 h, e)
 
 digits-on : (k left : ℕ) → 10 ≤ left → lastDigits (suc k) left ≡ lastDigits k (left / 10) ++ ((48 + left % 10) ∷ [])
-unfolding lastDigits pick
+unfolding lastDigits digitsBy
 digits-on k left h = rw (le-ltb left 10 h)
 
 take-replicate : (k : ℕ) (x : ℕ) → take k (replicate (suc k) x) ≡ replicate k x

@@ -13,7 +13,8 @@ use Rattle.ascii.specs.Bytes.{pick}
 use Rattle.ascii.specs.Literals.{text}
 use Rattle.ascii.specs.Texts.{sameBytes}
 use Rattle.ascii.specs.Reading.{isEmpty, next}
-use Rattle.origins.specs.Ports.{defaultPort, decimal, isNumber, leadsZero, isPort, originPort, isPortPart, portPartOf}
+use Rattle.ascii.specs.Decimals.{decimal, leadsZero}
+use Rattle.origins.specs.Ports.{defaultPort, isNumber, isPort, originPort, isPortPart, portPartOf}
 use Rattle.origins.specs.Steps.{portNumber, digitsAs, portAs}
 use Rattle.origins.specs.declared.Scheme.{Scheme}
 use Rattle.origins.specs.declared.Digits.{Digits}

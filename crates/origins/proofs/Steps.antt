@@ -14,7 +14,7 @@ use Rattle.ascii.specs.Texts.{every, each, lowered, sameBy, sameBytes, sameLowe
 use Rattle.ascii.specs.Reading.{headOf}
 use Rattle.limits.specs.Limits.{hostBytes}
 use Rattle.origins.specs.Hosts.{labels, isLabel, isHost}
-use Rattle.origins.specs.Ports.{leadsZero}
+use Rattle.ascii.specs.Decimals.{leadsZero}
 use Rattle.origins.specs.Origins.{startsWith}
 use Rattle.origins.specs.Expressions.{startsLowered}
 use Rattle.origins.specs.Matching.{endsIn}

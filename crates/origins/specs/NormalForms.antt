@@ -1,12 +1,13 @@
 -- 01, "Tidied headers": an expression's normal form, "lower case, no leading zeros, default port dropped"; and an origin's text.
-use Prim.Native.Nat.{ℕ, zero, suc, _+_, _/_, _%_, _≤_}
+use Prim.Native.Nat.{ℕ, _+_, _≤_}
 use mathlib.Core.Path.{_≡_}
 use mathlib.Core.List.{List, [], _∷_, _++_}
 use mathlib.Core.Bool.{Bool, true, false, _&&_}
-use lib.Dec.{ltb, eqb}
+use lib.Dec.{eqb}
 use Rattle.limits.specs.Limits.{lastPort, hostBytes, portDigits}
 use Rattle.ascii.specs.Bytes.{pick}
 use Rattle.ascii.specs.Texts.{sameBytes}
+use Rattle.ascii.specs.Decimals.{lastDigits}
 use Rattle.origins.specs.Hosts.{isHost, isOriginHost}
 use Rattle.origins.specs.Ports.{defaultPort}
 use Rattle.origins.specs.Origins.{TupleOrigin, schemeText, schemeSlashes}
@@ -17,11 +18,7 @@ use Rattle.origins.specs.declared.Scheme.{Scheme}
 use Rattle.origins.specs.declared.PortPart.{PortPart}
 use Rattle.origins.specs.declared.PortPart.the-variants.{Default, Any, Number}
 
--- a number in decimal without leading zeros, its last so many digits
-unfoldable pub lastDigits : ℕ → ℕ → List ℕ
-lastDigits zero n = []
-lastDigits (suc k) n = pick (ltb n 10) ((48 + n) ∷ []) (lastDigits k (n / 10) ++ ((48 + n % 10) ∷ []))
-
+-- a port without leading zeros
 abbrev pub portText : ℕ → List ℕ
 portText n = lastDigits portDigits n
 

@@ -4,7 +4,8 @@ use mathlib.Core.List.{List}
 use mathlib.Core.Bool.{Bool, true, false}
 use mathlib.Core.Option.{Option, some, none}
 use Rattle.ascii.specs.Bytes.{pick, lower}
-use Rattle.origins.specs.Ports.{decimal, isPortPart}
+use Rattle.ascii.specs.Decimals.{decimal}
+use Rattle.origins.specs.Ports.{isPortPart}
 use Rattle.origins.specs.Expressions.{HostPart}
 use Rattle.origins.specs.Expressions.HostPart.{noHost, anyHost, exactHost, subdomainsOf}
 use Rattle.origins.specs.declared.PortPart.{PortPart}
