@@ -9,7 +9,7 @@ use lib.Dec.{leb, ltb}
 use Rattle.ascii.specs.Bytes.{pick, isDigit}
 use Rattle.ascii.specs.Reading.{isEmpty}
 use Rattle.ascii.specs.Texts.{every, partIn}
-use Rattle.origins.specs.Ports.{decimal}
+use Rattle.ascii.specs.Decimals.{decimal}
 use Rattle.containers.specs.Attributes.{Attributes}
 use Rattle.replay_lines.specs.Format.{Text, Line, Sandbox, Said, nothing}
 use Rattle.replay_lines.specs.Format.Line.{top, frame, unload, ask, enabled, beneath, forecast, tidy, badLine}

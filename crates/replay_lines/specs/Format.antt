@@ -9,7 +9,7 @@ use Rattle.ascii.specs.Bytes.{pick, within, isDigit}
 use Rattle.ascii.specs.Literals.{text}
 use Rattle.ascii.specs.Reading.{headOf, isEmpty}
 use Rattle.ascii.specs.Texts.{every, sameBytes, cutAt}
-use Rattle.origins.specs.Ports.{decimal, leadsZero}
+use Rattle.ascii.specs.Decimals.{decimal, leadsZero}
 use Rattle.containers.specs.Attributes.{Attributes}
 use Rattle.replay_lines.specs.declared.CallName.{CallName}
 use Rattle.replay_lines.specs.declared.CallName.the-variants as name

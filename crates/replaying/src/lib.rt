@@ -1,0 +1,124 @@
+// A replayed session: calls on one new table from standard input, a line each, and their answers on standard output.
+use ascii::Class;
+use document_table::Table;
+use replay_lines::LINE_BYTES;
+use replay_lines::LineState;
+
+const STDIN: i32 = 0;
+
+const STDOUT: i32 = 1;
+
+const STDERR: i32 = 2;
+
+// Answers are gathered in so many bytes before they are written.
+const OUT_BYTES: usize = 16384;
+
+// The table, what was read of the line, whether the line has begun, how many bytes of answers wait to be written, and whether a write failed.
+struct Session {
+    table: Table,
+    line: LineState,
+    begun: bool,
+    waiting: usize,
+    failed: bool,
+}
+
+// Writes the answers that wait; a failure is told once.
+fn flush(out: &[u8], waiting: usize) -> bool {
+    if io::write_all(STDOUT, ascii::part(out, 0, waiting)) {
+        return true;
+    }
+    io::write_all(STDERR, b"replay: standard output can't be written\n");
+    false
+}
+
+// The line ends: its call is made, and its answer put behind those that wait; these are written where the next might not have room.
+fn end_line(s: Session, texts: &[u8; LINE_BYTES], out: &mut [u8]) -> Session {
+    let state = s.line;
+    let t = s.table;
+    let call = replay_lines::call(state, texts);
+    let r = replay_session::answer(t, call, texts, out, s.waiting);
+    let to = writing::put_byte(out, r.to, b'\n');
+    let table = r.table;
+    let line = replay_lines::new_line();
+    if replay_answers::has_room(out, to) {
+        return Session {
+            table,
+            line,
+            begun: false,
+            waiting: to,
+            failed: false,
+        };
+    }
+    let written = flush(out, to);
+    Session {
+        table,
+        line,
+        begun: false,
+        waiting: 0,
+        failed: !written,
+    }
+}
+
+// A piece of the input: lines, the last perhaps to be continued.
+fn take_piece(s: Session, piece: &[u8], texts: &mut [u8; LINE_BYTES], out: &mut [u8]) -> Session {
+    let mut cur = s;
+    let mut i: usize = 0;
+    while i < piece.len() {
+        let e = ascii::run_end(piece, i, Class::Not(b'\n'));
+        let state = cur.line;
+        cur.line = replay_lines::read(state, ascii::part(piece, i, e), texts);
+        if e < piece.len() {
+            cur = end_line(cur, texts, out);
+            if cur.failed {
+                return cur;
+            }
+            i = e + 1;
+        } else {
+            cur.begun = true;
+            i = e;
+        }
+    }
+    cur
+}
+
+// The session, in at most 2^64 - 1 reads.
+pub fn run() {
+    let mut input = io::buffer();
+    let mut texts = [0u8; LINE_BYTES];
+    let mut out = [0u8; OUT_BYTES];
+    let t = documents::new_table();
+    let line = replay_lines::new_line();
+    let mut s = Session {
+        table: t,
+        line,
+        begun: false,
+        waiting: 0,
+        failed: false,
+    };
+    let mut left: u64 = 0xffff_ffff_ffff_ffff;
+    while 0 < left {
+        let got = libc::read(STDIN, &mut input);
+        if got < 0 {
+            io::write_all(STDERR, b"replay: standard input can't be read\n");
+            left = 0;
+        } else {
+            let n = io::count(got, &input);
+            if n == 0 {
+                left = 0;
+            } else {
+                s = take_piece(s, &input[..n], &mut texts, &mut out);
+                if s.failed {
+                    return;
+                }
+                left -= 1;
+            }
+        }
+    }
+    if s.begun {
+        s = end_line(s, &texts, &mut out);
+        if s.failed {
+            return;
+        }
+    }
+    flush(&out, s.waiting);
+}
