@@ -1,10 +1,13 @@
 // The texts of answers in the replay format, put into a lent run from a place on.
+ghost use mathlib.Core.Path.{_≡_};
 ghost use mathlib.Core.List.{_++_};
-ghost use Rattle.limits.specs.Limits.{documentLimit};
+ghost use Prim.Native.Nat.{_+_};
+ghost use lib.ListN.{length};
+ghost use lib.Dec.{leb};
 ghost use Rattle.ascii.specs.Decimals.{decimalText};
 ghost use Rattle.writing.specs.Writing.{Puts};
 ghost use Rattle.documents.specs.Answers.{loadIn, unloadIn, questionIn, featuresIn, listingIn};
-ghost use Rattle.replay_answers.specs.Texts.{refusedText, serialsText, answerText, tidyText, badLineText};
+ghost use Rattle.replay_answers.specs.Texts.{refusedText, beneathText, answerText, tidyText, badLineText, answerBytes};
 use documents::FeaturesAnswer;
 use documents::ListingAnswer;
 use documents::LoadAnswer;
@@ -16,6 +19,16 @@ use tidying::TidyAnswer;
 
 // The length of the longest answer, `tidied ` and a tidied form.
 pub const ANSWER_BYTES: usize = 7 + TEXT_BYTES;
+
+// Whether any answer has room from a place on.
+pub fn has_room(run: &[u8], at: usize) -> bool
+    ensures { λ r. ⌜ r ≡ leb (at + answerBytes) (length (now (run .entry))) ⌝ }
+{
+    if run.len() < at {
+        return false;
+    }
+    ANSWER_BYTES <= run.len() - at
+}
 
 // Puts words and a number.
 fn put_numbered(run: &mut [u8], at: usize, words: &[u8], n: u64) -> usize
@@ -79,11 +92,11 @@ pub fn put_features(run: &mut [u8], at: usize, a: FeaturesAnswer) -> usize
     }
 }
 
-// Puts numbers, each after a space.
-fn put_serials(run: &mut [u8], at: usize, serials: &[u32]) -> usize
-    ensures { λ r. ⌜ Puts (now (run .entry)) at (serialsText (now (serials .entry))) (now (run .exit)) r ⌝ }
+// Puts a listing: the count, and serials, each after a space.
+fn put_serials(run: &mut [u8], at: usize, n: usize, serials: &[u32]) -> usize
+    ensures { λ r. ⌜ Puts (now (run .entry)) at (beneathText n (now (serials .entry))) (now (run .exit)) r ⌝ }
 {
-    let mut o = writing::put(run, at, b"");
+    let mut o = put_numbered(run, at, b"beneath ", n as u64);
     let mut i: usize = 0;
     while i < serials.len() {
         o = put_numbered(run, o, b" ", serials[i] as u64);
@@ -99,11 +112,10 @@ pub fn put_listing(run: &mut [u8], at: usize, a: ListingAnswer, serials: &[u32])
     match a {
         ListingAnswer::Refused(n) => put_refused(run, at, n),
         ListingAnswer::Count(n) => {
-            let o = put_numbered(run, at, b"beneath ", n as u64);
             if serials.len() <= n {
-                return put_serials(run, o, serials);
+                return put_serials(run, at, n, serials);
             }
-            put_serials(run, o, &serials[..n])
+            put_serials(run, at, n, &serials[..n])
         }
     }
 }

@@ -43,6 +43,11 @@ module _ (l m : List ℕ) (at r : ℕ) (s : List ℕ) (p : Puts l at s m r) wher
   pub puts-on : (n t : List ℕ) (q : ℕ) → Puts m r t n q → Puts l at (s ++ t) n q
   puts-on n t q g = record { run = g .run ∙ (rw (p .run) (with-next s t l at r (p .to))); to = omega (arith, p .to, g .to, puts-long, length-append s t) }
 
+  -- nothing after it
+  pub puts-ended : Puts m r [] m r
+  unfolding withText
+  puts-ended = record { run = refl; to = omega (arith, p .to, puts-long) }
+
   -- where there is room for the whole, it stands there, the other bytes are as before, and the answer is the place after it
   pub puts-whole : at + length s ≤ length l → m ≡ take at l ++ s ++ drop (at + length s) l
   unfolding withText
@@ -50,11 +55,6 @@ module _ (l m : List ℕ) (at r : ℕ) (s : List ℕ) (p : Puts l at s m r) wher
 
   pub puts-after : at + length s ≤ length l → r ≡ at + length s
   puts-after h = omega (arith, p .to)
-
--- nothing
-pub puts-none : (l : List ℕ) (at : ℕ) → at ≤ length l → Puts l at [] l at
-unfolding withText
-puts-none l at h = record { run = refl; to = omega arith }
 
 -- a number: one digit, or those of its tenth and one more
 module _ (l m : List ℕ) (at r n : ℕ) where
