@@ -25,7 +25,7 @@ numbered-short w n h = omega (arith, length-append w (decimalText n), decimal-sh
 refusal-small : (n : Refusal) → refusalNumber n < 2 ^ 64
 refusal-small = elim [ NotLoaded ↦ omega arith | NoSuchFeature ↦ omega arith | BadOrigin ↦ omega arith | TooLong ↦ omega arith | Sandbox ↦ omega arith | Full ↦ omega arith | Spent ↦ omega arith | NotADictionary ↦ omega arith | Small ↦ omega arith ]
 
-refused-short : (n : Refusal) → length (refusedText n) ≤ answerBytes
+pub refused-short : (n : Refusal) → length (refusedText n) ≤ answerBytes
 unfolding refusedText
 refused-short n = omega (arith, numbered-short (text "refused ") (refusalNumber n) (refusal-small n))
 
@@ -41,8 +41,13 @@ take-small (suc k) [] h i = omega arith
 take-small (suc k) (n ∷ ns) h zero = h 0
 take-small (suc k) (n ∷ ns) h (suc i) = take-small k ns (λ j. h (suc j)) i
 
+pub beneath-short : (n : ℕ) (ns : List ℕ) → n < 2 ^ 64 → length ns ≤ documentLimit → ((i : ℕ) → getD ns i 0 < 2 ^ 64) → length (beneathText n ns) ≤ answerBytes
+unfolding beneathText
+beneath-short n ns h few each =
+    omega (arith, length-append (text "beneath " ++ decimalText n) (serialsText ns), numbered-short (text "beneath ") n h, serials-short ns each)
+
 pub answer-short : (a : Answer) → Given a → length (answerText a) ≤ answerBytes
-unfolding answerText Given malformedMark decisionText beneathText
+unfolding answerText Given malformedMark decisionText
 answer-short (refused n) g = refused-short n
 answer-short (loaded n true) g =
     omega (arith, length-append (text "loaded " ++ decimalText n) (text " malformed"), numbered-short (text "loaded ") n g)
@@ -52,7 +57,7 @@ answer-short (decision enabled) g = omega arith
 answer-short (decision disabled) g = omega arith
 answer-short (features m) g = omega (arith, numbered-short (text "features ") m g)
 answer-short (serials n run) g =
-    omega (arith, length-append (text "beneath " ++ decimalText n) (serialsText (take n run)), numbered-short (text "beneath ") n (g .0), serials-short (take n run) (take-small n run (g .2)), g .1)
+    beneath-short n (take n run) (g .0) (g .1) (take-small n run (g .2))
 
 pub tidied-short : (t : List ℕ) → length t ≤ textBytes → length (tidiedText t) ≤ answerBytes
 tidied-short t h = omega arith

@@ -1,5 +1,5 @@
 -- `put_numbered` is right: one text after another.
-use Rattle.writing.proofs.Laws.{puts-on}
+use Rattle.replay_answers.proofs.Answering.{numbers}
 use borrow.Author.Needs.{needs}
 use Rattle.replay_answers.proofs.put_numbered.Statement.{statement}
 use Rattle.replay_answers.proofs.put_numbered.Tie as tie
@@ -11,4 +11,4 @@ put-numbered-spec =
     (λ c κs. search needs)
     (λ c κs. search needs)
     (λ c. search needs)
-    (λ c. search puts-on))
+    (λ c. search numbers))

@@ -1,7 +1,7 @@
 -- `put_serials` is right: before each turn the count and the serials so far are put.
-use Prim.Native.Nat.{_≤_, _-_}
+use Prim.Native.Nat.{ℕ, _≤_, _<_, _-_, _^_}
 use mathlib.Core.Path.{_≡_}
-use lib.ListN.{length, take}
+use lib.ListN.{length, take, getD}
 use native.Mathlib.Omega.{arith}
 use Rattle.writing.specs.Writing.{Puts}
 use Rattle.replay_answers.specs.Texts.{serialsText}
@@ -34,4 +34,7 @@ put-serials-spec =
     (λ c. search needs)
     (λ c. (omega arith, search needs, search serials-more))
     (λ c. search needs)
-    (λ c. search serials-all))
+    (λ c.
+    let start = c .before .before .before .before .before .before .before in
+    let each : (j : ℕ) → getD (start .before .before .args .serials .now) j 0 < 2 ^ 64 = λ j. omega (arith, start .shared-slice-known .given j) in
+    search serials-all))
