@@ -1,10 +1,12 @@
--- No answer is longer than the longest: the laws for the crates above. Assumes nothing.
+-- The laws of answers' texts, for the crates above: none is longer than the longest. Assumes nothing.
 use mathlib.Core.Path.{_≡_, refl, ap, _∙_}
 use Prim.Native.Nat.{ℕ, zero, suc, _+_, _*_, _^_, _≤_, _<_}
 use mathlib.Core.Bool.{true, false}
 use mathlib.Core.List.{List, [], _∷_, _++_}
 use native.Mathlib.Omega.{arith}
-use lib.ListN.{length, take, getD, length-append, length-take}
+use lib.ListN.{length, take, drop, getD, length-append, length-take}
+use lib.Dec.{leb}
+use borrow.Author.Tests.{leb-true}
 use Rattle.limits.specs.Limits.{textBytes, documentLimit}
 use Rattle.limits.specs.Refusals.{refusalNumber}
 use Rattle.limits.specs.declared.Refusal.{Refusal}
@@ -12,11 +14,13 @@ use Rattle.limits.specs.declared.Refusal.the-variants.{NotLoaded, NoSuchFeature
 use Rattle.ascii.specs.Literals.{text}
 use Rattle.ascii.specs.Decimals.{decimalText}
 use Rattle.ascii.proofs.Decimals.{decimal-short}
+use Rattle.writing.proofs.Laws.{puts-whole, puts-after}
 use Rattle.decisions.specs.Decisions.Decision.{disabled, enabled}
 use Rattle.document_model.specs.Model.{Answer, refused, loaded, removed, decision, features, serials}
 use Rattle.tidying.specs.declared.TidyAnswer.{TidyAnswer}
 use Rattle.tidying.specs.declared.TidyAnswer.the-variants as tidy
 use Rattle.replay_answers.specs.Texts.{refusedText, malformedMark, decisionText, serialsText, beneathText, answerText, tidiedText, tidyText, answerBytes, Given}
+use Rattle.replay_answers.specs.Promises.{Says}
 
 -- words and a number
 numbered-short : (w : List ℕ) (n : ℕ) → n < 2 ^ 64 → length (w ++ decimalText n) ≤ length w + 20
@@ -66,3 +70,14 @@ pub tidy-short : (a : TidyAnswer) (run : List ℕ) → length run ≤ textBytes 
 unfolding tidyText
 tidy-short (tidy.Length n) run h = omega (arith, length-take n run)
 tidy-short (tidy.Refused n) run h = refused-short n
+
+-- where any answer has room, the whole text stands there, and the answer is the place after it
+module _ (l m : List ℕ) (at r : ℕ) (t : List ℕ) (p : Says l at t m r) (h : leb (at + answerBytes) (length l) ≡ true) where
+  room : at + length t ≤ length l
+  room = omega (arith, p .short, leb-true (at + answerBytes) (length l) h)
+
+  pub says-whole : m ≡ take at l ++ t ++ drop (at + length t) l
+  says-whole = puts-whole l m at r t (p .puts) room
+
+  pub says-after : r ≡ at + length t
+  says-after = puts-after l m at r t (p .puts) room

@@ -7,7 +7,7 @@ use native.Mathlib.Omega.{arith}
 use lib.ListN.{length, take, drop, set, length-append}
 use lib.Dec.{leb}
 use borrow.Author.Tests.{leb-true, leb-false}
-use lib.Seq.{sets-eq, length-sets}
+use lib.Seq.{sets-eq, length-sets, take-at, length-take-le}
 use Rattle.ascii.specs.Decimals.{decimalText}
 use Rattle.ascii.proofs.Decimals.{decimal-small, decimal-great}
 use Rattle.writing.specs.Writing.{withText, placeAfter, Puts}
@@ -55,6 +55,11 @@ module _ (l m : List ℕ) (at r : ℕ) (s : List ℕ) (p : Puts l at s m r) wher
 
   pub puts-after : at + length s ≤ length l → r ≡ at + length s
   puts-after h = omega (arith, p .to)
+
+  pub puts-upto : at + length s ≤ length l → take r m ≡ take at l ++ s
+  puts-upto h =
+      rw (puts-whole h, puts-after h)
+      (take-at (take at l ++ s) (drop (at + length s) l) (at + length s) (length-append (take at l) s ∙ ap (λ (n : ℕ). n + length s) (length-take-le at l (omega arith))))
 
 -- a number: one digit, or those of its tenth and one more
 module _ (l m : List ℕ) (at r n : ℕ) where
