@@ -1,3 +1,4 @@
 pub mod Texts
+pub mod Promises
 pub mod Computing
 pub mod Examples

@@ -1,8 +1,8 @@
 -- The replay format's second table: the text of each answer, without its line feed.
-use Prim.Native.Nat.{ℕ, _+_, _*_, _^_, _<_, _≤_}
+use Prim.Native.Nat.{ℕ, _+_, _^_, _<_, _≤_}
 use mathlib.Core.Bool.{Bool, true, false}
 use mathlib.Core.List.{List, [], _∷_, _++_}
-use lib.ListN.{length, take}
+use lib.ListN.{length, take, getD}
 use Rattle.limits.specs.Limits.{textBytes, documentLimit}
 use Rattle.limits.specs.Refusals.{refusalNumber}
 use Rattle.limits.specs.declared.Refusal.{Refusal}
@@ -33,6 +33,10 @@ unfoldable pub serialsText : List ℕ → Text
 serialsText [] = []
 serialsText (n ∷ ns) = text " " ++ decimalText n ++ serialsText ns
 
+-- "`beneath N S1 S2 ..`: the listing: count and serials"; "`beneath 0` has none", no space either
+unfoldable pub beneathText : ℕ → List ℕ → Text
+beneathText n ns = text "beneath " ++ decimalText n ++ serialsText ns
+
 -- "Answers, a line each": those of the calls on the table
 unfoldable pub answerText : Answer → Text
 answerText (refused n) = refusedText n
@@ -40,7 +44,7 @@ answerText (loaded n malformed) = text "loaded " ++ decimalText n ++ malformedMa
 answerText (removed n) = text "unloaded " ++ decimalText n
 answerText (decision d) = decisionText d
 answerText (features m) = text "features " ++ decimalText m
-answerText (serials n run) = text "beneath " ++ decimalText n ++ serialsText (take n run)
+answerText (serials n run) = beneathText n (take n run)
 
 -- "`tidied TEXT`: the tidied form"; "an empty form has its one space and nothing after it"
 abbrev pub tidiedText : Text → Text
@@ -58,3 +62,12 @@ badLineText = text "bad line"
 -- the longest answer's length, a tidied form's
 abbrev pub answerBytes : ℕ
 answerBytes = 7 + textBytes
+
+-- answers of numbers that fit 64 bits, and of at most as many serials as documents can be loaded: the calls give no others
+unfoldable pub Given : Answer → Type 0
+Given (refused n) = Unit {0}
+Given (loaded n malformed) = n < 2 ^ 64
+Given (removed n) = n < 2 ^ 64
+Given (decision d) = Unit {0}
+Given (features m) = m < 2 ^ 64
+Given (serials n run) = (n < 2 ^ 64) × (length (take n run) ≤ documentLimit) × ((i : ℕ) → getD run i 0 < 2 ^ 64)

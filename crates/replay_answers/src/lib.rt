@@ -1,10 +1,12 @@
 // The texts of answers in the replay format, put into a lent run from a place on.
-ghost use mathlib.Core.List.{_++_};
-ghost use Rattle.limits.specs.Limits.{documentLimit};
-ghost use Rattle.ascii.specs.Decimals.{decimalText};
+ghost use mathlib.Core.Path.{_≡_};
+ghost use Prim.Native.Nat.{_+_};
+ghost use lib.ListN.{length};
+ghost use lib.Dec.{leb};
 ghost use Rattle.writing.specs.Writing.{Puts};
 ghost use Rattle.documents.specs.Answers.{loadIn, unloadIn, questionIn, featuresIn, listingIn};
-ghost use Rattle.replay_answers.specs.Texts.{refusedText, serialsText, answerText, tidyText, badLineText};
+ghost use Rattle.replay_answers.specs.Texts.{refusedText, beneathText, answerText, tidyText, badLineText, answerBytes};
+ghost use Rattle.replay_answers.specs.Promises.{Numbers, Says, Lists};
 use documents::FeaturesAnswer;
 use documents::ListingAnswer;
 use documents::LoadAnswer;
@@ -17,9 +19,19 @@ use tidying::TidyAnswer;
 // The length of the longest answer, `tidied ` and a tidied form.
 pub const ANSWER_BYTES: usize = 7 + TEXT_BYTES;
 
+// Whether any answer has room from a place on.
+pub fn has_room(run: &[u8], at: usize) -> bool
+    ensures { λ r. ⌜ r ≡ leb (at + answerBytes) (length (now (run .entry))) ⌝ }
+{
+    if run.len() < at {
+        return false;
+    }
+    ANSWER_BYTES <= run.len() - at
+}
+
 // Puts words and a number.
 fn put_numbered(run: &mut [u8], at: usize, words: &[u8], n: u64) -> usize
-    ensures { λ r. ⌜ Puts (now (run .entry)) at (now (words .entry) ++ decimalText n) (now (run .exit)) r ⌝ }
+    ensures { λ r. ⌜ Numbers (now (run .entry)) at (now (words .entry)) n (now (run .exit)) r ⌝ }
 {
     let o = writing::put(run, at, words);
     writing::put_decimal(run, o, n)
@@ -27,14 +39,14 @@ fn put_numbered(run: &mut [u8], at: usize, words: &[u8], n: u64) -> usize
 
 // Puts a refusal.
 fn put_refused(run: &mut [u8], at: usize, n: Refusal) -> usize
-    ensures { λ r. ⌜ Puts (now (run .entry)) at (refusedText n) (now (run .exit)) r ⌝ }
+    ensures { λ r. ⌜ Says (now (run .entry)) at (refusedText n) (now (run .exit)) r ⌝ }
 {
     put_numbered(run, at, b"refused ", limits::refusal_number(n) as u64)
 }
 
 // Puts the answer of a load.
 pub fn put_load(run: &mut [u8], at: usize, a: LoadAnswer) -> usize
-    ensures { λ r. ⌜ Puts (now (run .entry)) at (answerText (loadIn a)) (now (run .exit)) r ⌝ }
+    ensures { λ r. ⌜ Says (now (run .entry)) at (answerText (loadIn a)) (now (run .exit)) r ⌝ }
 {
     match a {
         LoadAnswer::Refused(n) => put_refused(run, at, n),
@@ -50,7 +62,7 @@ pub fn put_load(run: &mut [u8], at: usize, a: LoadAnswer) -> usize
 
 // Puts the answer of an unload.
 pub fn put_unload(run: &mut [u8], at: usize, a: UnloadAnswer) -> usize
-    ensures { λ r. ⌜ Puts (now (run .entry)) at (answerText (unloadIn a)) (now (run .exit)) r ⌝ }
+    ensures { λ r. ⌜ Says (now (run .entry)) at (answerText (unloadIn a)) (now (run .exit)) r ⌝ }
 {
     match a {
         UnloadAnswer::Refused(n) => put_refused(run, at, n),
@@ -60,7 +72,7 @@ pub fn put_unload(run: &mut [u8], at: usize, a: UnloadAnswer) -> usize
 
 // Puts the answer of a question.
 pub fn put_question(run: &mut [u8], at: usize, a: QuestionAnswer) -> usize
-    ensures { λ r. ⌜ Puts (now (run .entry)) at (answerText (questionIn a)) (now (run .exit)) r ⌝ }
+    ensures { λ r. ⌜ Says (now (run .entry)) at (answerText (questionIn a)) (now (run .exit)) r ⌝ }
 {
     match a {
         QuestionAnswer::Refused(n) => put_refused(run, at, n),
@@ -71,7 +83,7 @@ pub fn put_question(run: &mut [u8], at: usize, a: QuestionAnswer) -> usize
 
 // Puts the answer of a question for the enabled features, or of a forecast.
 pub fn put_features(run: &mut [u8], at: usize, a: FeaturesAnswer) -> usize
-    ensures { λ r. ⌜ Puts (now (run .entry)) at (answerText (featuresIn a)) (now (run .exit)) r ⌝ }
+    ensures { λ r. ⌜ Says (now (run .entry)) at (answerText (featuresIn a)) (now (run .exit)) r ⌝ }
 {
     match a {
         FeaturesAnswer::Refused(n) => put_refused(run, at, n),
@@ -79,11 +91,11 @@ pub fn put_features(run: &mut [u8], at: usize, a: FeaturesAnswer) -> usize
     }
 }
 
-// Puts numbers, each after a space.
-fn put_serials(run: &mut [u8], at: usize, serials: &[u32]) -> usize
-    ensures { λ r. ⌜ Puts (now (run .entry)) at (serialsText (now (serials .entry))) (now (run .exit)) r ⌝ }
+// Puts a listing: the count, and serials, each after a space.
+fn put_serials(run: &mut [u8], at: usize, n: usize, serials: &[u32]) -> usize
+    ensures { λ r. ⌜ Lists (now (serials .entry)) (now (run .entry)) at (beneathText n (now (serials .entry))) (now (run .exit)) r ⌝ }
 {
-    let mut o = writing::put(run, at, b"");
+    let mut o = put_numbered(run, at, b"beneath ", n as u64);
     let mut i: usize = 0;
     while i < serials.len() {
         o = put_numbered(run, o, b" ", serials[i] as u64);
@@ -94,16 +106,15 @@ fn put_serials(run: &mut [u8], at: usize, serials: &[u32]) -> usize
 
 // Puts the answer of a listing, whose serials are the first of a lent run.
 pub fn put_listing(run: &mut [u8], at: usize, a: ListingAnswer, serials: &[u32]) -> usize
-    ensures { λ r. ⌜ Puts (now (run .entry)) at (answerText (listingIn a (now (serials .entry)))) (now (run .exit)) r ⌝ }
+    ensures { λ r. ⌜ Lists (now (serials .entry)) (now (run .entry)) at (answerText (listingIn a (now (serials .entry)))) (now (run .exit)) r ⌝ }
 {
     match a {
         ListingAnswer::Refused(n) => put_refused(run, at, n),
         ListingAnswer::Count(n) => {
-            let o = put_numbered(run, at, b"beneath ", n as u64);
             if serials.len() <= n {
-                return put_serials(run, o, serials);
+                return put_serials(run, at, n, serials);
             }
-            put_serials(run, o, &serials[..n])
+            put_serials(run, at, n, &serials[..n])
         }
     }
 }
@@ -126,7 +137,7 @@ pub fn put_tidied(run: &mut [u8], at: usize, a: TidyAnswer, tidied: &[u8]) -> us
 
 // Puts what answers a line that is none of the calls.
 pub fn put_bad_line(run: &mut [u8], at: usize) -> usize
-    ensures { λ r. ⌜ Puts (now (run .entry)) at badLineText (now (run .exit)) r ⌝ }
+    ensures { λ r. ⌜ Says (now (run .entry)) at badLineText (now (run .exit)) r ⌝ }
 {
     writing::put(run, at, b"bad line")
 }

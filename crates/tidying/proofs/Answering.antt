@@ -25,10 +25,10 @@ use Rattle.settling.specs.declared.Settled.the-variants as settled
 use Rattle.tidying.specs.Tidied.{tidyFrom, tidyMembers, tidied}
 use Rattle.tidying.specs.Writing.{Holds, Adding}
 use Rattle.tidying.specs.Answers.{tidyAnswer, runAfter, IsTidied}
-use Rattle.tidying.specs.Steps.{IsPut}
+use Rattle.writing.specs.Writing.{Puts}
+use Rattle.writing.proofs.Laws.{puts-whole, puts-after}
 use Rattle.tidying.specs.declared.TidyAnswer.{TidyAnswer}
 use Rattle.tidying.specs.declared.TidyAnswer.the-variants as answer
-use Rattle.tidying.proofs.Copies.{puts-front}
 
 -- an empty text is held at first
 holds-none : (l : List ℕ) → Holds l 0 []
@@ -114,13 +114,15 @@ module _ (s run before after : List ℕ) (r : Settled) (g : IsSettled s before a
             record { answer = rw (short, ← (i .malformed), m, e, le-ltb textBytes n u, lt-ltb (length run) n v); bytes = refl }
 
         -- the text, copied
-        pub written-out : (o : List ℕ) (q : ℕ) → n ≤ length run → IsPut run 0 (take n z) o q → IsTidied s run o (answer.Length q)
+        pub written-out : (o : List ℕ) (q : ℕ) → n ≤ length run → Puts run 0 (take n z) o q → IsTidied s run o (answer.Length q)
         unfolding tidyAnswer runAfter pick
         written-out o q v p =
             let e : length (tidied s) ≡ n = room-is in
-            let t : take n z ≡ tidied s = held .fits u .1 in
-            let j : q ≡ n = p .to ∙ (ap (λ (w : List ℕ). 0 + length w) t ∙ (zero-add (length (tidied s)) ∙ e)) in
+            let t : Puts run 0 (tidied s) o q = rw (held .fits u .1) at p in
+            let h : 0 + length (tidied s) ≤ length run = omega arith in
+            let j : q ≡ n = omega (arith, puts-after run o 0 q (tidied s) t h) in
+            let k : 0 + length (tidied s) ≡ q = omega arith in
             record {
               answer = rw (short, ← (i .malformed), m, e, le-ltb textBytes n u, le-ltb (length run) n v, j);
-              bytes = p .is ∙ (rw (t, j, ← e) (puts-front run (tidied s)));
+              bytes = puts-whole run o 0 q (tidied s) t h ∙ rw k;
             }

@@ -1,30 +1,35 @@
 -- A text that grows in a buffer of the limit's size. Assumes nothing.
 use mathlib.Core.Path.{_≡_, refl, ap, _∙_}
-use Prim.Native.Nat.{ℕ, _+_, _-_, _≤_, _<_}
+use Prim.Native.Nat.{ℕ, _+_, _≤_, _<_}
 use mathlib.Core.List.{List, [], _++_, append-assoc, append-nil}
 use mathlib.Core.Bool.{Bool, true, false}
 use native.Mathlib.Omega.{arith}
-use borrow.Author.Needs.{needs}
-use lib.ListN.{length, length-append}
+use lib.ListN.{length, take, length-append}
+use lib.Dec.{leb}
+use borrow.Author.Tests.{leb-true, leb-false}
 use Rattle.limits.specs.Limits.{textBytes}
 use Rattle.ascii.specs.Bytes.{pick}
-use Rattle.tidying.specs.Writing.{Adding}
-use Rattle.tidying.specs.Steps.{IsPut}
-use Rattle.tidying.proofs.Copies.{puts-take}
+use Rattle.writing.specs.Writing.{Puts}
+use Rattle.writing.proofs.Laws.{puts-long, puts-after, puts-upto}
+use Rattle.tidying.specs.Writing.{Holds, Adding}
 
--- a text that is too long stays so
-pub add-over : (l : List ℕ) (at : ℕ) (t : List ℕ) → textBytes < at → Adding l at t l (textBytes + 1)
-add-over l at t h = record { long = refl; holds = λ d g. record { fits = λ e. absurd (omega arith); over = λ e. omega (arith, length-append d t, g .over h) } }
+-- a text that is put is added: it fits, or the whole is too long
+add-fits : (l m d : List ℕ) (at r : ℕ) (t : List ℕ) → length l ≡ textBytes → Puts l at t m r → Holds l at d → r ≤ textBytes → (r ≡ length (d ++ t)) × (take r m ≡ d ++ t)
+add-fits l m d at r t n p g w =
+    let h : at + length t ≤ length l = omega (arith, p .to) in
+    let f = g .fits (omega arith) in
+    (omega (arith, length-append d t, puts-after l m at r t p h, f .0), puts-upto l m at r t p h ∙ ap (λ (z : List ℕ). z ++ t) (f .1))
 
-pub add-long : (l : List ℕ) (at : ℕ) (t : List ℕ) → at ≤ textBytes → textBytes - at < length t → Adding l at t l (textBytes + 1)
-add-long l at t h k = record { long = refl; holds = λ d g. record { fits = λ e. absurd (omega arith); over = λ e. omega (arith, length-append d t, g .fits h .0) } }
+add-over : (l m d : List ℕ) (at r : ℕ) (t : List ℕ) → length l ≡ textBytes → Puts l at t m r → Holds l at d → textBytes < r → textBytes < length (d ++ t)
+add-over l m d at r t n p g w = go (leb at textBytes) refl
+  where
+    go : (b : Bool) → leb at textBytes ≡ b → textBytes < length (d ++ t)
+    go true e = omega (arith, length-append d t, p .to, g .fits (leb-true at textBytes e) .0)
+    go false e = omega (arith, length-append d t, g .over (leb-false at textBytes e))
 
--- one that fits is added
-pub add-put : (l : List ℕ) (at : ℕ) (t m : List ℕ) (r : ℕ) → at ≤ textBytes → length t ≤ textBytes - at → length l ≡ textBytes → IsPut l at t m r → Adding l at t m r
-add-put l at t m r h k n p =
-    record { long = p .long; holds = λ d g. record { fits = λ w. (omega (arith, length-append d t, g .fits h .0), rw (p .is, p .to) (puts-take l at t (omega arith) ∙ ap (λ (z : List ℕ). z ++ t) (g .fits h .1))); over = λ o. absurd (omega (arith, p .to)) } }
-
-pub ruleset growing = (add-over, add-long, add-put, needs)
+pub add-puts : (l : List ℕ) (at : ℕ) (t m : List ℕ) (r : ℕ) → length l ≡ textBytes → Puts l at t m r → Adding l at t m r
+add-puts l at t m r n p =
+    record { long = puts-long l m at r t p; holds = λ d g. record { fits = add-fits l m d at r t n p g; over = add-over l m d at r t n p g } }
 
 -- one after the other
 pub adding-on : (l m n : List ℕ) (at o r : ℕ) (a b : List ℕ) → Adding l at a m o → Adding m o b n r → Adding l at (a ++ b) n r

@@ -1,4 +1,3 @@
-pub mod Copies
 pub mod Growing
 pub mod Forms
 pub mod Spellings

@@ -1,26 +1,14 @@
 -- What the steps of tidying promise of one another.
-use Prim.Native.Nat.{ℕ, _+_}
+use Prim.Native.Nat.{ℕ}
 use mathlib.Core.Path.{_≡_}
 use mathlib.Core.List.{List, [], _∷_, map}
 use mathlib.Core.Bool.{Bool, true, false, _||_}
-use lib.ListN.{length}
-use lib.Seq.{paste}
 use Rattle.origins.specs.Expressions.{SourceExpression}
 use Rattle.origins.specs.NormalForms.{normal}
 use Rattle.dictionaries.specs.Written.{eachAfter, joinedBy, itemText}
 use Rattle.tidying.specs.Tidied.{among, unless, normalsOf, sourceItem}
 use Rattle.tidying.specs.Writing.{Adding}
 use Rattle.tidying.specs.declared.Added.{Added}
-
--- a run with a text from a place on
-unfoldable pub puts : List ℕ → ℕ → List ℕ → List ℕ
-puts l at t = paste l at t (length t)
-
--- a text was written at a place
-pub record IsPut (l : List ℕ) (at : ℕ) (t m : List ℕ) (r : ℕ) : Type 0 where
-  pub is : m ≡ puts l at t
-  pub to : r ≡ at + length t
-  pub long : length m ≡ length l
 
 -- texts with a separator before each, but for the first of all
 unfoldable pub following : Bool → List ℕ → List (List ℕ) → List ℕ

@@ -2,7 +2,6 @@
 ghost use mathlib.Core.Path.{_≡_};
 ghost use mathlib.Core.List.{[], _∷_, _++_, map};
 ghost use mathlib.Core.Bool.{false};
-ghost use Prim.Native.Nat.{_+_, _≤_};
 ghost use lib.ListN.{length, drop};
 ghost use Rattle.limits.specs.Limits.{textBytes};
 ghost use Rattle.ascii.specs.Bytes.{pick};
@@ -17,7 +16,7 @@ ghost use Rattle.settled.specs.Settled.{expressionsFrom, declaredIn};
 ghost use Rattle.tidying.specs.Tidied.{among, selfItem, tidyValue, withMember, tidyMembers};
 ghost use Rattle.tidying.specs.Writing.{Adding};
 ghost use Rattle.tidying.specs.Answers.{IsTidied};
-ghost use Rattle.tidying.specs.Steps.{IsPut, Spelling, sourceText, sourceTexts, newText};
+ghost use Rattle.tidying.specs.Steps.{Spelling, sourceText, sourceTexts, newText};
 use limits::Refusal;
 use limits::TEXT_BYTES;
 use origins::ExpressionParts;
@@ -42,33 +41,12 @@ struct Added {
     any: bool,
 }
 
-// Writes a text at a place.
-fn put(out: &mut [u8], at: usize, t: &[u8]) -> usize
-    requires { ⌜ at + length (now t) ≤ length (now out) ⌝ }
-    ensures { λ r. ⌜ IsPut (now (out .entry)) at (now (t .entry)) (now (out .exit)) r ⌝ }
-{
-    let mut j: usize = 0;
-    let mut o = at;
-    while j < t.len() {
-        out[o] = t[j];
-        o += 1;
-        j += 1;
-    }
-    o
-}
-
 // Adds a text to one that the buffer holds up to a place; a place past the buffer's end says that the text is too long.
 fn add(buf: &mut [u8], at: usize, t: &[u8]) -> usize
     requires { ⌜ length (now buf) ≡ textBytes ⌝ }
     ensures { λ r. ⌜ Adding (now (buf .entry)) at (now (t .entry)) (now (buf .exit)) r ⌝ }
 {
-    if TEXT_BYTES < at {
-        return TEXT_BYTES + 1;
-    }
-    if TEXT_BYTES - at < t.len() {
-        return TEXT_BYTES + 1;
-    }
-    put(buf, at, t)
+    writing::put(buf, at, t)
 }
 
 // Adds a separator where a text stands before it.
@@ -320,7 +298,7 @@ pub fn tidy(s: &[u8], out: &mut [u8]) -> TidyAnswer
             if out.len() < n {
                 return TidyAnswer::Refused(Refusal::Small);
             }
-            let to = put(out, 0, &buf[..n]);
+            let to = writing::put(out, 0, &buf[..n]);
             TidyAnswer::Length(to)
         }
     }

@@ -7,7 +7,7 @@ use native.Mathlib.Omega.{arith}
 use lib.ListN.{length, take, drop, set, length-append}
 use lib.Dec.{leb}
 use borrow.Author.Tests.{leb-true, leb-false}
-use lib.Seq.{sets-eq, length-sets}
+use lib.Seq.{sets-eq, length-sets, take-at, length-take-le}
 use Rattle.ascii.specs.Decimals.{decimalText}
 use Rattle.ascii.proofs.Decimals.{decimal-small, decimal-great}
 use Rattle.writing.specs.Writing.{withText, placeAfter, Puts}
@@ -43,6 +43,11 @@ module _ (l m : List ℕ) (at r : ℕ) (s : List ℕ) (p : Puts l at s m r) wher
   pub puts-on : (n t : List ℕ) (q : ℕ) → Puts m r t n q → Puts l at (s ++ t) n q
   puts-on n t q g = record { run = g .run ∙ (rw (p .run) (with-next s t l at r (p .to))); to = omega (arith, p .to, g .to, puts-long, length-append s t) }
 
+  -- nothing after it
+  pub puts-ended : Puts m r [] m r
+  unfolding withText
+  puts-ended = record { run = refl; to = omega (arith, p .to, puts-long) }
+
   -- where there is room for the whole, it stands there, the other bytes are as before, and the answer is the place after it
   pub puts-whole : at + length s ≤ length l → m ≡ take at l ++ s ++ drop (at + length s) l
   unfolding withText
@@ -51,10 +56,10 @@ module _ (l m : List ℕ) (at r : ℕ) (s : List ℕ) (p : Puts l at s m r) wher
   pub puts-after : at + length s ≤ length l → r ≡ at + length s
   puts-after h = omega (arith, p .to)
 
--- nothing
-pub puts-none : (l : List ℕ) (at : ℕ) → at ≤ length l → Puts l at [] l at
-unfolding withText
-puts-none l at h = record { run = refl; to = omega arith }
+  pub puts-upto : at + length s ≤ length l → take r m ≡ take at l ++ s
+  puts-upto h =
+      rw (puts-whole h, puts-after h)
+      (take-at (take at l ++ s) (drop (at + length s) l) (at + length s) (length-append (take at l) s ∙ ap (λ (n : ℕ). n + length s) (length-take-le at l (omega arith))))
 
 -- a number: one digit, or those of its tenth and one more
 module _ (l m : List ℕ) (at r n : ℕ) where

@@ -23,7 +23,7 @@ tidy-spec =
     (λ c. search run-short)
     (λ c. search needs)
     (λ c. simp length-take (omega arith))
-    (λ c κs. simp length-take (omega arith))
+    (λ c κs. search needs)
     (λ c. search input-long)
     (λ c. search never-small)
     (λ c. search needs)
