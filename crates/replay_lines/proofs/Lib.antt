@@ -5,3 +5,4 @@ pub mod FieldReadings
 pub mod Choices
 pub mod Numbers
 pub mod Lines
+pub mod CutLines
