@@ -1,11 +1,11 @@
 -- Ports in decimal, read digit by digit. Assumes nothing.
 use mathlib.Core.Path.{_≡_, refl, _∙_, sym}
-use Prim.Native.Nat.{ℕ, _+_, _-_, _*_, _≤_, _<_}
+use Prim.Native.Nat.{ℕ, zero, suc, _+_, _-_, _*_, _^_, _≤_, _<_}
 use mathlib.Core.List.{List, [], _∷_}
 use mathlib.Core.Bool.{Bool, true, false, not, _&&_}
 use mathlib.Core.Option.{Option, some, none}
 use native.Mathlib.Omega.{arith}
-use native.Mathlib.Nat.{lt-of-lt-of-le}
+use native.Mathlib.Nat.{lt-of-lt-of-le, le-trans, le-of-suc-le-suc, mul-le-mul-right, mul-assoc, pow-succ'}
 use native.Mathlib.Numerals.{add-one}
 use lib.ListN.{length, getD, drop, drop-of-length-le}
 use lib.Seq.{drop-cons}
@@ -24,45 +24,45 @@ use Rattle.origins.specs.Steps.{portNumber, digitsAs}
 use Rattle.origins.specs.declared.Digits.{Digits}
 use Rattle.origins.specs.declared.Digits.the-variants as digits
 
--- the reading of digits that stops where the number is too great
-unfoldable pub readFrom : ℕ → List ℕ → Option ℕ
-readFrom n [] = some n
-readFrom n (d ∷ ds) = pick (isDigit d) (pick (leb (n * 10 + (d - 48)) lastPort) (readFrom (n * 10 + (d - 48)) ds) none) none
+-- the reading of digits that stops where the number is over a limit
+unfoldable pub readFrom : ℕ → ℕ → List ℕ → Option ℕ
+readFrom most n [] = some n
+readFrom most n (d ∷ ds) = pick (isDigit d) (pick (leb (n * 10 + (d - 48)) most) (readFrom most (n * 10 + (d - 48)) ds) none) none
 
-pub read-is : (n : ℕ) (ds : List ℕ) → n ≤ lastPort → readFrom n ds ≡ pick (every isDigit ds && leb (decimalFrom n ds) lastPort) (some (decimalFrom n ds)) none
+pub read-is : (most n : ℕ) (ds : List ℕ) → n ≤ most → readFrom most n ds ≡ pick (every isDigit ds && leb (decimalFrom n ds) most) (some (decimalFrom n ds)) none
 unfolding readFrom decimalFrom every pick
-read-is n [] h = rw (le-leb n lastPort h)
-read-is n (d ∷ ds) h = go (isDigit d) (leb (n * 10 + (d - 48)) lastPort) refl (λ k. read-is (n * 10 + (d - 48)) ds k)
+read-is most n [] h = rw (le-leb n most h)
+read-is most n (d ∷ ds) h = go (isDigit d) (leb (n * 10 + (d - 48)) most) refl (λ k. read-is most (n * 10 + (d - 48)) ds k)
   where
-    go : (a b : Bool) → leb (n * 10 + (d - 48)) lastPort ≡ b → (n * 10 + (d - 48) ≤ lastPort → readFrom (n * 10 + (d - 48)) ds ≡ pick (every isDigit ds && leb (decimalFrom (n * 10 + (d - 48)) ds) lastPort) (some (decimalFrom (n * 10 + (d - 48)) ds)) none) → pick a (pick b (readFrom (n * 10 + (d - 48)) ds) none) none ≡ pick (a && every isDigit ds && leb (decimalFrom (n * 10 + (d - 48)) ds) lastPort) (some (decimalFrom (n * 10 + (d - 48)) ds)) none
-    go true true e ih = ih (leb-true (n * 10 + (d - 48)) lastPort e)
+    go : (a b : Bool) → leb (n * 10 + (d - 48)) most ≡ b → (n * 10 + (d - 48) ≤ most → readFrom most (n * 10 + (d - 48)) ds ≡ pick (every isDigit ds && leb (decimalFrom (n * 10 + (d - 48)) ds) most) (some (decimalFrom (n * 10 + (d - 48)) ds)) none) → pick a (pick b (readFrom most (n * 10 + (d - 48)) ds) none) none ≡ pick (a && every isDigit ds && leb (decimalFrom (n * 10 + (d - 48)) ds) most) (some (decimalFrom (n * 10 + (d - 48)) ds)) none
+    go true true e ih = ih (leb-true (n * 10 + (d - 48)) most e)
     go true false e ih =
-        let g : lastPort < decimalFrom (n * 10 + (d - 48)) ds = omega (arith, decimal-grows (n * 10 + (d - 48)) ds, leb-false (n * 10 + (d - 48)) lastPort e) in
-        rw (lt-leb (decimalFrom (n * 10 + (d - 48)) ds) lastPort g, and-false (every isDigit ds))
+        let g : most < decimalFrom (n * 10 + (d - 48)) ds = omega (arith, decimal-grows (n * 10 + (d - 48)) ds, leb-false (n * 10 + (d - 48)) most e) in
+        rw (lt-leb (decimalFrom (n * 10 + (d - 48)) ds) most g, and-false (every isDigit ds))
     go false b e ih = refl
 
 -- one turn of the reading
-module _ (n i : ℕ) (ds : List ℕ) (r : Option ℕ) where
-  pub read-end : length ds ≤ i → readFrom n (drop i ds) ≡ r → some n ≡ r
+module _ (most n i : ℕ) (ds : List ℕ) (r : Option ℕ) where
+  pub read-end : length ds ≤ i → readFrom most n (drop i ds) ≡ r → some n ≡ r
   unfolding readFrom
   read-end h e = rw (drop-of-length-le ds h) at e
 
-  pub read-other : (b : Bool) → b ≡ isDigit (getD ds i 0) → not b ≡ true → i < length ds → readFrom n (drop i ds) ≡ r → none ≡ r
+  pub read-other : (b : Bool) → b ≡ isDigit (getD ds i 0) → not b ≡ true → i < length ds → readFrom most n (drop i ds) ≡ r → none ≡ r
   unfolding readFrom pick
   read-other b u t h e = let v : isDigit (getD ds i 0) ≡ false = sym u ∙ not-true b t in rw (drop-cons ds i 0 h, v) at e
 
-  module _ (q : ℕ) (is : q ≡ getD ds i 0 - 48) (b : Bool) (u : b ≡ isDigit (getD ds i 0)) (t : not b ≡ false) (h : i < length ds) (e : readFrom n (drop i ds) ≡ r) where
-    at-digit : pick (leb (n * 10 + q) lastPort) (readFrom (n * 10 + q) (drop (i + 1) ds)) none ≡ r
+  module _ (q : ℕ) (is : q ≡ getD ds i 0 - 48) (b : Bool) (u : b ≡ isDigit (getD ds i 0)) (t : not b ≡ false) (h : i < length ds) (e : readFrom most n (drop i ds) ≡ r) where
+    at-digit : pick (leb (n * 10 + q) most) (readFrom most (n * 10 + q) (drop (i + 1) ds)) none ≡ r
     unfolding readFrom pick
     at-digit = let v : isDigit (getD ds i 0) ≡ true = sym u ∙ not-false b t in rw (is, add-one) (rw (drop-cons ds i 0 h, v) at e)
 
-    pub read-great : lastPort < n * 10 + q → none ≡ r
+    pub read-great : most < n * 10 + q → none ≡ r
     unfolding pick
-    read-great g = rw (lt-leb (n * 10 + q) lastPort g) at at-digit
+    read-great g = rw (lt-leb (n * 10 + q) most g) at at-digit
 
-    pub read-more : n * 10 + q ≤ lastPort → readFrom (n * 10 + q) (drop (i + 1) ds) ≡ r
+    pub read-more : n * 10 + q ≤ most → readFrom most (n * 10 + q) (drop (i + 1) ds) ≡ r
     unfolding pick
-    read-more g = rw (le-leb (n * 10 + q) lastPort g) at at-digit
+    read-more g = rw (le-leb (n * 10 + q) most g) at at-digit
 
 -- a digit's bounds, by the test that the code makes
 module _ (x : ℕ) (b : Bool) (u : b ≡ isDigit x) (t : not b ≡ false) where
@@ -82,28 +82,35 @@ module _ (ds : List ℕ) where
   unfolding portNumber isPortPart isNumber isEmpty pick
   number-empty = elim ds [ [] ↦ λ h. refl | x ∷ xs ↦ λ h. absurd (omega arith) ]
 
-  pub number-start : length ds ≤ portDigits → (length ds ≡ 0 → ⊥) → readFrom 0 ds ≡ portNumber ds
+  pub number-start : length ds ≤ portDigits → (length ds ≡ 0 → ⊥) → readFrom lastPort 0 ds ≡ portNumber ds
   unfolding portNumber isPortPart isNumber isEmpty pick
-  number-start = elim ds [ [] ↦ λ h g. absurd (g refl) | x ∷ xs ↦ λ h g. read-is 0 (x ∷ xs) (omega arith) ∙ rw (le-leb (length (x ∷ xs)) portDigits h) ]
+  number-start = elim ds [ [] ↦ λ h g. absurd (g refl) | x ∷ xs ↦ λ h g. read-is lastPort 0 (x ∷ xs) (omega arith) ∙ rw (le-leb (length (x ∷ xs)) portDigits h) ]
 
--- "no leading zero" leaves at most five digits for a number up to 65,535
-six-digits : (a b c d e f : ℕ) → 1 ≤ a → lastPort < (((((0 * 10 + a) * 10 + b) * 10 + c) * 10 + d) * 10 + e) * 10 + f
-six-digits a b c d e f h = omega arith
+-- as many digits more make a number so much greater
+tens-grow : (n k : ℕ) (ds : List ℕ) → k ≤ length ds → n * 10 ^ k ≤ decimalFrom n ds
+unfolding decimalFrom
+tens-grow n zero ds h = omega (arith, decimal-grows n ds)
+tens-grow n (suc k) [] h = absurd (omega arith)
+tens-grow n (suc k) (d ∷ ds) h =
+    let g : (n * 10 + (d - 48)) * 10 ^ k ≤ decimalFrom (n * 10 + (d - 48)) ds = tens-grow (n * 10 + (d - 48)) k ds (le-of-suc-le-suc h) in
+    let m : n * 10 * 10 ^ k ≤ (n * 10 + (d - 48)) * 10 ^ k = mul-le-mul-right (10 ^ k) (omega arith) in
+    rw (pow-succ', ← mul-assoc) (le-trans m g)
 
-pub long-decimal : (ds : List ℕ) → portDigits < length ds → leadsZero ds ≡ false → every isDigit ds ≡ true → lastPort < decimal ds
+-- "no leading zero": a number of more than one digit is at least 1 and as many zeros as digits follow
+pub long-number : (k : ℕ) (ds : List ℕ) → 1 ≤ k → k < length ds → leadsZero ds ≡ false → every isDigit ds ≡ true → 10 ^ k ≤ decimal ds
 unfolding leadsZero every decimalFrom headOf
-long-decimal [] h z e = absurd (omega arith)
-long-decimal (a ∷ []) h z e = absurd (omega arith)
-long-decimal (a ∷ b ∷ []) h z e = absurd (omega arith)
-long-decimal (a ∷ b ∷ c ∷ []) h z e = absurd (omega arith)
-long-decimal (a ∷ b ∷ c ∷ d ∷ []) h z e = absurd (omega arith)
-long-decimal (a ∷ b ∷ c ∷ d ∷ f ∷ []) h z e = absurd (omega arith)
-long-decimal (a ∷ b ∷ c ∷ d ∷ f ∷ g ∷ ds) h z e =
-    let u : 48 ≤ a = within-low 48 57 a (and-left (isDigit a) (every isDigit (b ∷ c ∷ d ∷ f ∷ g ∷ ds)) e) in
-    let v : eqb a 48 ≡ false = rw (lt-ltb 1 (length (a ∷ b ∷ c ∷ d ∷ f ∷ g ∷ ds)) (omega arith)) at z in
+long-number k [] p h z e = absurd (omega arith)
+long-number k (a ∷ ds) p h z e =
+    let u : 48 ≤ a = within-low 48 57 a (and-left (isDigit a) (every isDigit ds) e) in
+    let v : eqb a 48 ≡ false = rw (lt-ltb 1 (length (a ∷ ds)) (omega arith)) at z in
     let w : a ≡ 48 → ⊥ = eqb-false a 48 v in
-    lt-of-lt-of-le (six-digits (a - 48) (b - 48) (c - 48) (d - 48) (f - 48) (g - 48) (omega arith))
-    (decimal-grows ((((((0 * 10 + (a - 48)) * 10 + (b - 48)) * 10 + (c - 48)) * 10 + (d - 48)) * 10 + (f - 48)) * 10 + (g - 48)) ds)
+    let m : 1 * 10 ^ k ≤ (0 * 10 + (a - 48)) * 10 ^ k = mul-le-mul-right (10 ^ k) (omega arith) in
+    let q : 1 * 10 ^ k ≡ 10 ^ k = omega arith in
+    le-trans (rw q at m) (tens-grow (0 * 10 + (a - 48)) k ds (le-of-suc-le-suc h))
+
+-- so at most five digits are left for a number up to 65,535
+pub long-decimal : (ds : List ℕ) → portDigits < length ds → leadsZero ds ≡ false → every isDigit ds ≡ true → lastPort < decimal ds
+long-decimal ds h z e = lt-of-lt-of-le {m = 10 ^ 5} (omega arith) (long-number 5 ds (omega arith) h z e)
 
 -- what a number's test says
 module _ (ds : List ℕ) (e : isNumber ds ≡ true) where

@@ -10,8 +10,9 @@ use Rattle.ascii.specs.Bytes.{pick}
 use Rattle.ascii.specs.Literals.{text}
 use Rattle.ascii.specs.Reading.{headOf, isEmpty}
 use Rattle.ascii.specs.Texts.{sameBytes}
+use Rattle.containers.specs.Attributes.{Attributes}
 use Rattle.replay_lines.specs.Format.{Text, Line, Sandbox, Said, isTab, isPercent, isHex, hexByte, nameOf, numberOf, markOf, callOf}
-use Rattle.replay_lines.specs.Format.Line.{badLine}
+use Rattle.replay_lines.specs.Format.Line.{top, frame, unload, ask, enabled, beneath, forecast, tidy, badLine}
 use Rattle.replay_lines.specs.declared.CallName.the-variants as name
 use Rattle.replay_lines.specs.declared.Place.{Place}
 use Rattle.replay_lines.specs.declared.Place.the-variants.{Plain, Percent, Digit, Broken}
@@ -119,3 +120,22 @@ keptSays f =
 unfoldable pub lineFrom : Reading → Line
 lineFrom (reading ended f) = callOf (map keptSays (ended ++ (f ∷ [])))
 lineFrom tooMany = badLine
+
+-- ---- "at most one byte more than the limit is kept of each": a call with its texts cut
+
+abbrev pub cut : Text → Text
+cut t = take keptText t
+
+abbrev pub cutAttributes : Attributes → Attributes
+cutAttributes a = record { allow = cut (a .allow); allowfullscreen = a .allowfullscreen; hasSandbox = a .hasSandbox; sandbox = cut (a .sandbox); src = cut (a .src) }
+
+abbrev pub cutLine : Line → Line
+cutLine (top origin header) = top (cut origin) (cut header)
+cutLine (frame container origin attributes header) = frame container (cut origin) (cutAttributes attributes) (cut header)
+cutLine (unload serial) = unload serial
+cutLine (ask serial feature origin) = ask serial feature (cut origin)
+cutLine (enabled serial) = enabled serial
+cutLine (beneath serial room) = beneath serial room
+cutLine (forecast container attributes) = forecast container (cutAttributes attributes)
+cutLine (tidy room header) = tidy room (cut header)
+cutLine badLine = badLine

@@ -11,7 +11,7 @@ use Rattle.origins.proofs.number.Statement.{statement}
 use Rattle.origins.proofs.number.Tie as tie
 
 abbrev Inv-loop : tie.InvT-loop
-Inv-loop d n₀ i₀ n i = (i ≤ length d) × (n ≤ lastPort) × (readFrom n (drop i d) ≡ portNumber d)
+Inv-loop d n₀ i₀ n i = (i ≤ length d) × (n ≤ lastPort) × (readFrom lastPort n (drop i d) ≡ portNumber d)
 
 abbrev μ-loop : tie.MeasureT-loop
 μ-loop d n₀ i₀ n i = length d - i
@@ -29,7 +29,7 @@ number-spec =
     (λ c κs. search needs)
     (λ c.
     let l = c .before .before .before in
-    ap digitsAs (read-other _ _ _ _ _ (c .before .is-digit .ensures) (c .if3 .taken) (l .loop-test .taken) (l .before .loop .inv .2)))
+    ap digitsAs (read-other _ _ _ _ _ _ (c .before .is-digit .ensures) (c .if3 .taken) (l .loop-test .taken) (l .before .loop .inv .2)))
     (λ c. search needs)
     (λ c κs. (digit-low _ _ (c .before .is-digit .ensures) (c .if3 .left), digit-high _ _ (c .before .is-digit .ensures) (c .if3 .left)))
     (λ c.
@@ -39,11 +39,11 @@ number-spec =
     (λ c.
     let d = c .before .before .before in
     let l = d .before .before in
-    ap digitsAs (read-great _ _ _ _ _ (c .before .digit .ensures) _ (d .is-digit .ensures) (c .before .before .if3 .left) (l .loop-test .taken) (l .before .loop .inv .2) (c .if4 .taken)))
+    ap digitsAs (read-great _ _ _ _ _ _ (c .before .digit .ensures) _ (d .is-digit .ensures) (c .before .before .if3 .left) (l .loop-test .taken) (l .before .loop .inv .2) (c .if4 .taken)))
     (λ c. search needs)
     (λ c. search needs)
     (λ c.
     let d = c .before .before .before in
     let l = d .before .before in
-    (search needs, search needs, read-more _ _ _ _ _ (c .before .digit .ensures) _ (d .is-digit .ensures) (c .before .before .if3 .left) (l .loop-test .taken) (l .before .loop .inv .2) (c .if4 .left)))
-    (λ c. ap digitsAs (read-end _ _ _ _ (c .loop-test .left) (c .before .loop .inv .2))))
+    (search needs, search needs, read-more _ _ _ _ _ _ (c .before .digit .ensures) _ (d .is-digit .ensures) (c .before .before .if3 .left) (l .loop-test .taken) (l .before .loop .inv .2) (c .if4 .left)))
+    (λ c. ap digitsAs (read-end _ _ _ _ _ (c .loop-test .left) (c .before .loop .inv .2))))

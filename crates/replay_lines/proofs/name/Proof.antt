@@ -75,7 +75,14 @@ same-requires-7 c κs = search needs
 
 returns-7 : tie.Need-returns-7
 unfolding nameOf
-returns-7 c = search picks depth 12
+returns-7 c =
+    let e6 = c .before .before .before in
+    let e5 = e6 .before .before .before in
+    let e4 = e5 .before .before .before in
+    let e3 = e4 .before .before .before in
+    let e2 = e3 .before .before .before in
+    let e1 = e2 .before .before .before in
+    search (picks, e1 .before .same .ensures, e1 .if1 .left, e2 .before .same2 .ensures, e2 .if2 .left, e3 .before .same3 .ensures, e3 .if3 .left, e4 .before .same4 .ensures, e4 .if4 .left, e5 .before .same5 .ensures, e5 .if5 .left, e6 .before .same6 .ensures, e6 .if6 .left, c .before .same7 .ensures, c .if7 .taken) depth 12
 
 slice-aggregate-same-8 : tie.Need-slice-aggregate-same-8
 slice-aggregate-same-8 c = search needs
@@ -85,11 +92,27 @@ same-requires-8 c κs = search needs
 
 returns-8 : tie.Need-returns-8
 unfolding nameOf
-returns-8 c = search picks depth 12
+returns-8 c =
+    let e7 = c .before .before .before in
+    let e6 = e7 .before .before .before in
+    let e5 = e6 .before .before .before in
+    let e4 = e5 .before .before .before in
+    let e3 = e4 .before .before .before in
+    let e2 = e3 .before .before .before in
+    let e1 = e2 .before .before .before in
+    search (picks, e1 .before .same .ensures, e1 .if1 .left, e2 .before .same2 .ensures, e2 .if2 .left, e3 .before .same3 .ensures, e3 .if3 .left, e4 .before .same4 .ensures, e4 .if4 .left, e5 .before .same5 .ensures, e5 .if5 .left, e6 .before .same6 .ensures, e6 .if6 .left, e7 .before .same7 .ensures, e7 .if7 .left, c .before .same8 .ensures, c .if8 .taken) depth 12
 
 returns-9 : tie.Need-returns-9
 unfolding nameOf
-returns-9 c = search picks depth 12
+returns-9 c =
+    let e7 = c .before .before .before in
+    let e6 = e7 .before .before .before in
+    let e5 = e6 .before .before .before in
+    let e4 = e5 .before .before .before in
+    let e3 = e4 .before .before .before in
+    let e2 = e3 .before .before .before in
+    let e1 = e2 .before .before .before in
+    search (picks, e1 .before .same .ensures, e1 .if1 .left, e2 .before .same2 .ensures, e2 .if2 .left, e3 .before .same3 .ensures, e3 .if3 .left, e4 .before .same4 .ensures, e4 .if4 .left, e5 .before .same5 .ensures, e5 .if5 .left, e6 .before .same6 .ensures, e6 .if6 .left, e7 .before .same7 .ensures, e7 .if7 .left, c .before .same8 .ensures, c .if8 .left) depth 12
 
 pub name-spec : {M : Type 1} → statement M
 name-spec =

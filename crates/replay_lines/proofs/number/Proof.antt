@@ -1,3 +1,6 @@
+use Prim.Native.Nat.{_≤_}
+use Rattle.replay_lines.specs.Format.{lastNumber}
+use Rattle.replay_lines.proofs.Numbers.{number-zero, number-read, number-unread, number-most}
 use borrow.Author.Needs.{needs}
 use Rattle.replay_lines.proofs.number.Statement.{statement}
 use Rattle.replay_lines.proofs.number.Tie as tie
@@ -10,7 +13,7 @@ leads-zero-requires : tie.Need-leads-zero-requires
 leads-zero-requires c κs = search needs
 
 returns : tie.Need-returns
-returns c = ?
+returns c = search number-zero
 
 decimal-requires : tie.Need-decimal-requires
 decimal-requires c κs = search needs
@@ -19,16 +22,16 @@ enum-known-n : tie.Need-enum-known-n
 enum-known-n c = search needs
 
 cast-t6 : tie.Need-cast-t6
-cast-t6 c = search needs
+cast-t6 c = let h : c .before .n .given .0 .0 ≤ lastNumber = search number-most in search needs
 
 enum-told : tie.Need-enum-told
 enum-told c = search needs
 
 returns-2 : tie.Need-returns-2
-returns-2 c = ?
+returns-2 c = search number-read
 
 returns-3 : tie.Need-returns-3
-returns-3 c = ?
+returns-3 c = search number-unread
 
 pub number-spec : {M : Type 1} → statement M
 number-spec =

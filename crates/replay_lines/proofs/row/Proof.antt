@@ -1,3 +1,4 @@
+use Rattle.replay_lines.proofs.Lines.{call-row}
 use borrow.Author.Needs.{needs}
 use Rattle.replay_lines.proofs.row.Statement.{statement}
 use Rattle.replay_lines.proofs.row.Tie as tie
@@ -68,31 +69,31 @@ enum-told-9 : tie.Need-enum-told-9
 enum-told-9 c = search needs
 
 returns : tie.Need-returns
-returns c = ?
+returns c = search call-row
 
 returns-2 : tie.Need-returns-2
-returns-2 c = ?
+returns-2 c = search call-row
 
 returns-3 : tie.Need-returns-3
-returns-3 c = ?
+returns-3 c = search call-row
 
 returns-4 : tie.Need-returns-4
-returns-4 c = ?
+returns-4 c = search call-row
 
 returns-5 : tie.Need-returns-5
-returns-5 c = ?
+returns-5 c = search call-row
 
 returns-6 : tie.Need-returns-6
-returns-6 c = ?
+returns-6 c = search call-row
 
 returns-7 : tie.Need-returns-7
-returns-7 c = ?
+returns-7 c = search call-row
 
 returns-8 : tie.Need-returns-8
-returns-8 c = ?
+returns-8 c = search call-row
 
 returns-9 : tie.Need-returns-9
-returns-9 c = ?
+returns-9 c = search call-row
 
 pub row-spec : {M : Type 1} → statement M
 row-spec =
