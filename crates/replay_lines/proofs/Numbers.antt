@@ -14,7 +14,7 @@ use Rattle.ascii.proofs.Clash.{clash}
 use Rattle.ascii.specs.Bytes.{pick, isDigit}
 use Rattle.ascii.specs.Reading.{isEmpty}
 use Rattle.ascii.specs.Texts.{every}
-use Rattle.origins.specs.Ports.{decimal, leadsZero}
+use Rattle.ascii.specs.Decimals.{decimal, leadsZero}
 use Rattle.origins.proofs.Laws.{readFrom, read-is, read-great, read-more, long-number}
 use Rattle.replay_lines.specs.Format.{lastNumber, isNumber, numberOf}
 use Rattle.replay_lines.specs.Answers.{upto, digitsIn}
