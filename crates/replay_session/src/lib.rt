@@ -1,4 +1,19 @@
 // A line of the replay format on a table of documents: the call that it is, made, and its answer put into a lent run.
+ghost use mathlib.Core.Path.{_≡_};
+ghost use Prim.Native.Nat.{min};
+ghost use lib.ListN.{length};
+ghost use Rattle.ascii.specs.Texts.{partIn};
+ghost use Rattle.tidying.specs.Tidied.{tidied};
+ghost use Rattle.tidying.specs.Answers.{tidyAnswer};
+ghost use Rattle.document_model.specs.Model.{topLoad, framedLoad, unload, question, enabledFeatures, listing, forecastOf, answerTo};
+ghost use Rattle.document_table.specs.Tables.{view};
+ghost use Rattle.documents.specs.Answers.{Valid};
+ghost use Rattle.writing.specs.Writing.{Puts};
+ghost use Rattle.replay_answers.specs.Texts.{answerText};
+ghost use Rattle.replay_lines.specs.Format.Line.{beneath};
+ghost use Rattle.replay_lines.specs.Answers.{attributesIn, lineIn};
+ghost use Rattle.replay_session.specs.Session.{tidyLineText, lineAnswer};
+ghost use Rattle.replay_session.specs.Answers.{marksIn, Makes, Answers};
 use ascii::TextRange;
 use document_loads::FrameMarks;
 use document_table::Table;
@@ -19,22 +34,31 @@ pub struct Answered {
     pub to: usize,
 }
 
-fn text(texts: &[u8], r: TextRange) -> &[u8] {
-    ascii::part(texts, r.from, r.to)
+fn text(texts: &[u8], p: TextRange) -> &[u8]
+    ensures { λ r. ⌜ now r ≡ partIn (now (texts .entry)) p ⌝ }
+{
+    ascii::part(texts, p.from, p.to)
 }
 
-fn least(a: usize, b: usize) -> usize {
+fn least(a: usize, b: usize) -> usize
+    ensures { λ r. ⌜ r ≡ min a b ⌝ }
+{
     if a < b { a } else { b }
 }
 
-fn marks(a: AttributeRanges) -> FrameMarks {
+fn marks(a: AttributeRanges) -> FrameMarks
+    ensures { λ r. ⌜ r ≡ marksIn a ⌝ }
+{
     FrameMarks {
         allowfullscreen: a.fullscreen,
         has_sandbox: a.sandbox.stands,
     }
 }
 
-fn top(t: Table, l: TopLine, texts: &[u8], out: &mut [u8], at: usize) -> Answered {
+fn top_line(t: Table, l: TopLine, texts: &[u8], out: &mut [u8], at: usize) -> Answered
+    requires { ⌜ Valid t ⌝ }
+    ensures { λ r. ⌜ Makes (topLoad (partIn (now (texts .entry)) (l .header)) (partIn (now (texts .entry)) (l .origin))) t (now (out .entry)) at (now (out .exit)) r ⌝ }
+{
     let r = documents::load_top(t, text(texts, l.origin), text(texts, l.header));
     let table = r.table;
     let a = r.answer;
@@ -44,7 +68,10 @@ fn top(t: Table, l: TopLine, texts: &[u8], out: &mut [u8], at: usize) -> Answere
     }
 }
 
-fn frame(t: Table, l: FrameLine, texts: &[u8], out: &mut [u8], at: usize) -> Answered {
+fn frame_line(t: Table, l: FrameLine, texts: &[u8], out: &mut [u8], at: usize) -> Answered
+    requires { ⌜ Valid t ⌝ }
+    ensures { λ r. ⌜ Makes (framedLoad (l .container) (partIn (now (texts .entry)) (l .header)) (partIn (now (texts .entry)) (l .origin)) (attributesIn (now (texts .entry)) (l .attributes))) t (now (out .entry)) at (now (out .exit)) r ⌝ }
+{
     let f = l.attributes;
     let r = documents::load_framed(
         t,
@@ -64,7 +91,10 @@ fn frame(t: Table, l: FrameLine, texts: &[u8], out: &mut [u8], at: usize) -> Ans
     }
 }
 
-fn unload(t: Table, serial: u32, out: &mut [u8], at: usize) -> Answered {
+fn unload_line(t: Table, serial: u32, out: &mut [u8], at: usize) -> Answered
+    requires { ⌜ Valid t ⌝ }
+    ensures { λ r. ⌜ Makes (unload serial) t (now (out .entry)) at (now (out .exit)) r ⌝ }
+{
     let r = documents::unload(t, serial);
     let table = r.table;
     let a = r.answer;
@@ -74,30 +104,45 @@ fn unload(t: Table, serial: u32, out: &mut [u8], at: usize) -> Answered {
     }
 }
 
-fn ask(t: Table, l: AskLine, texts: &[u8], out: &mut [u8], at: usize) -> usize {
+fn ask_line(t: Table, l: AskLine, texts: &[u8], out: &mut [u8], at: usize) -> usize
+    requires { ⌜ Valid t ⌝ }
+    ensures { λ r. ⌜ Puts (now (out .entry)) at (answerText (answerTo (question (l .serial) (l .feature) (partIn (now (texts .entry)) (l .origin))) (view t))) (now (out .exit)) r ⌝ }
+{
     let a = documents::question(t, l.serial, l.feature, text(texts, l.origin));
     replay_answers::put_question(out, at, a)
 }
 
-fn enabled(t: Table, serial: u32, out: &mut [u8], at: usize) -> usize {
+fn enabled_line(t: Table, serial: u32, out: &mut [u8], at: usize) -> usize
+    requires { ⌜ Valid t ⌝ }
+    ensures { λ r. ⌜ Puts (now (out .entry)) at (answerText (answerTo (enabledFeatures serial) (view t))) (now (out .exit)) r ⌝ }
+{
     let a = documents::enabled_features(t, serial);
     replay_answers::put_features(out, at, a)
 }
 
 // A listing into lent places.
-fn listed(t: Table, serial: u32, places: &mut [u32], out: &mut [u8], at: usize) -> usize {
+fn list_into(t: Table, serial: u32, places: &mut [u32], out: &mut [u8], at: usize) -> usize
+    requires { ⌜ Valid t ⌝ }
+    ensures { λ r. ⌜ Puts (now (out .entry)) at (answerText (answerTo (listing serial (now (places .entry))) (view t))) (now (out .exit)) r ⌝ }
+{
     let a = documents::list_beneath(t, serial, places);
     replay_answers::put_listing(out, at, a, places)
 }
 
 // A listing into ROOM places, or as many as there are documents.
-fn beneath(t: Table, l: BeneathLine, out: &mut [u8], at: usize) -> usize {
+fn beneath_line(t: Table, l: BeneathLine, out: &mut [u8], at: usize) -> usize
+    requires { ⌜ Valid t ⌝ }
+    ensures { λ r. ⌜ Puts (now (out .entry)) at (lineAnswer (beneath (l .serial) (l .room)) (view t)) (now (out .exit)) r ⌝ }
+{
     let mut places = [0u32; DOCUMENTS];
     let n = least(l.room as usize, DOCUMENTS);
-    listed(t, l.serial, &mut places[..n], out, at)
+    list_into(t, l.serial, &mut places[..n], out, at)
 }
 
-fn forecast(t: Table, l: ForecastLine, texts: &[u8], out: &mut [u8], at: usize) -> usize {
+fn forecast_line(t: Table, l: ForecastLine, texts: &[u8], out: &mut [u8], at: usize) -> usize
+    requires { ⌜ Valid t ⌝ }
+    ensures { λ r. ⌜ Puts (now (out .entry)) at (answerText (answerTo (forecastOf (l .container) (attributesIn (now (texts .entry)) (l .attributes))) (view t))) (now (out .exit)) r ⌝ }
+{
     let f = l.attributes;
     let a = documents::forecast(
         t,
@@ -111,43 +156,50 @@ fn forecast(t: Table, l: ForecastLine, texts: &[u8], out: &mut [u8], at: usize) 
 }
 
 // A tidied form in a lent run.
-fn tidied(header: &[u8], form: &mut [u8], out: &mut [u8], at: usize) -> usize {
+fn tidy_into(header: &[u8], form: &mut [u8], out: &mut [u8], at: usize) -> usize
+    ensures { λ r. ⌜ Puts (now (out .entry)) at (tidyLineText (tidyAnswer (now (header .entry)) (length (now (form .entry)))) (tidied (now (header .entry)))) (now (out .exit)) r ⌝ }
+{
     let a = tidying::tidy(header, form);
     replay_answers::put_tidied(out, at, a, form)
 }
 
 // A tidied form in ROOM bytes, or as many as the limit allows.
-fn tidy(l: TidyLine, texts: &[u8], out: &mut [u8], at: usize) -> usize {
+fn tidy_line(l: TidyLine, texts: &[u8], out: &mut [u8], at: usize) -> usize
+    ensures { λ r. ⌜ Puts (now (out .entry)) at (tidyLineText (tidyAnswer (partIn (now (texts .entry)) (l .header)) (l .room)) (tidied (partIn (now (texts .entry)) (l .header)))) (now (out .exit)) r ⌝ }
+{
     let mut form = [0u8; TEXT_BYTES];
     let n = least(l.room as usize, TEXT_BYTES);
-    tidied(text(texts, l.header), &mut form[..n], out, at)
+    tidy_into(text(texts, l.header), &mut form[..n], out, at)
 }
 
 // A line's answer, put at a place of a lent run, and the table that it leaves.
-pub fn answer(t: Table, line: Line, texts: &[u8], out: &mut [u8], at: usize) -> Answered {
+pub fn answer(t: Table, line: Line, texts: &[u8], out: &mut [u8], at: usize) -> Answered
+    requires { ⌜ Valid t ⌝ }
+    ensures { λ r. ⌜ Answers (lineIn (now (texts .entry)) line) t (now (out .entry)) at (now (out .exit)) r ⌝ }
+{
     match line {
-        Line::Top(l) => top(t, l, texts, out, at),
-        Line::Frame(l) => frame(t, l, texts, out, at),
-        Line::Unload(serial) => unload(t, serial, out, at),
+        Line::Top(l) => top_line(t, l, texts, out, at),
+        Line::Frame(l) => frame_line(t, l, texts, out, at),
+        Line::Unload(serial) => unload_line(t, serial, out, at),
         Line::Ask(l) => Answered {
             table: t,
-            to: ask(t, l, texts, out, at),
+            to: ask_line(t, l, texts, out, at),
         },
         Line::Enabled(serial) => Answered {
             table: t,
-            to: enabled(t, serial, out, at),
+            to: enabled_line(t, serial, out, at),
         },
         Line::Beneath(l) => Answered {
             table: t,
-            to: beneath(t, l, out, at),
+            to: beneath_line(t, l, out, at),
         },
         Line::Forecast(l) => Answered {
             table: t,
-            to: forecast(t, l, texts, out, at),
+            to: forecast_line(t, l, texts, out, at),
         },
         Line::Tidy(l) => Answered {
             table: t,
-            to: tidy(l, texts, out, at),
+            to: tidy_line(l, texts, out, at),
         },
         Line::Bad => Answered {
             table: t,
