@@ -9,6 +9,7 @@ use lib.Dec.{leb}
 use borrow.Author.Tests.{le-leb, lt-leb, leb-true, leb-false}
 use lib.ListN.{length, getD, take, length-take}
 use lib.Seq.{take-all, take-suc}
+use Rattle.limits.specs.Limits.{textBytes, documentLimit}
 use Rattle.limits.specs.Refusals.{refusalNumber}
 use Rattle.limits.specs.declared.Refusal.{Refusal}
 use Rattle.ascii.specs.Literals.{text}
@@ -31,8 +32,8 @@ use Rattle.documents.specs.declared.ListingAnswer.the-variants as listing
 use Rattle.tidying.specs.declared.TidyAnswer.{TidyAnswer}
 use Rattle.tidying.specs.declared.TidyAnswer.the-variants as tidy
 use Rattle.replay_answers.specs.Texts.{refusedText, malformedMark, decisionText, serialsText, beneathText, answerText, tidyText, Given}
-use Rattle.replay_answers.specs.Promises.{Says, Lists, Numbers}
-use Rattle.replay_answers.proofs.Laws.{refused-short, answer-short, beneath-short}
+use Rattle.replay_answers.specs.Promises.{Says, SaysOf, Numbers}
+use Rattle.replay_answers.proofs.Laws.{refused-short, answer-short, beneath-short, tidy-short}
 
 -- words and a number
 pub numbers : (l k m : List ℕ) (at o r : ℕ) (w : List ℕ) (n : ℕ) → n < 2 ^ 64 → Puts l at w k o → Puts k o (decimalText n) m r → Numbers l at w n m r
@@ -69,13 +70,13 @@ module _ (l m : List ℕ) (at r : ℕ) (x : Refusal) (p : Says l at (refusedText
   unfolding answerText
   features-refused a e = rw e p
 
-  pub listing-refused : (a : ListingAnswer) (run : List ℕ) → a ≡ listing.Refused x → Lists run l at (answerText (listingIn a run)) m r
+  pub listing-refused : (a : ListingAnswer) (run : List ℕ) → a ≡ listing.Refused x → SaysOf documentLimit run l at (answerText (listingIn a run)) m r
   unfolding answerText
   listing-refused a run e = rw e (record { puts = p .puts; short = λ h. p .short })
 
-  pub tidy-refused : (a : TidyAnswer) (run : List ℕ) → a ≡ tidy.Refused x → Puts l at (tidyText a run) m r
+  pub tidy-refused : (a : TidyAnswer) (run : List ℕ) → a ≡ tidy.Refused x → SaysOf textBytes run l at (tidyText a run) m r
   unfolding tidyText
-  tidy-refused a run e = rw e (p .puts)
+  tidy-refused a run e = rw e (record { puts = p .puts; short = λ h. p .short })
 
 -- a question
 module _ (l m : List ℕ) (at r : ℕ) (a : QuestionAnswer) where
@@ -119,30 +120,29 @@ module _ (l m : List ℕ) (at o : ℕ) (ns : List ℕ) (i : ℕ) where
       rw (add-one, take-suc ns i 0 h, serials-append (take i ns) (getD ns i 0 ∷ []), serials-one (getD ns i 0))
       (puts-on l m at o (serialsText (take i ns)) p k (text " " ++ decimalText (getD ns i 0)) r (q .puts))
 
-  pub serials-all : (z : List ℕ) (from n : ℕ) → ((j : ℕ) → getD ns j 0 < 2 ^ 64) → length ns ≤ i → Numbers z from (text "beneath ") n l at → Puts l at (serialsText (take i ns)) m o → Lists ns z from (beneathText n ns) m o
+  pub serials-all : (z : List ℕ) (from n : ℕ) → ((j : ℕ) → getD ns j 0 < 2 ^ 64) → length ns ≤ i → Numbers z from (text "beneath ") n l at → Puts l at (serialsText (take i ns)) m o → SaysOf documentLimit ns z from (beneathText n ns) m o
   unfolding beneathText
   serials-all z from n each h p q =
       record { puts = puts-on z l from at (text "beneath " ++ decimalText n) (p .puts) m (serialsText ns) o (rw (take-all i ns h) at q); short = λ g. beneath-short n ns (p .small) g each }
 
 -- a listing
 module _ (l m : List ℕ) (at r n : ℕ) (a : ListingAnswer) (e : a ≡ listing.Count n) (run : List ℕ) where
-  pub listing-whole : length run ≤ n → Lists run l at (beneathText n run) m r → Lists run l at (answerText (listingIn a run)) m r
+  pub listing-whole : length run ≤ n → SaysOf documentLimit run l at (beneathText n run) m r → SaysOf documentLimit run l at (answerText (listingIn a run)) m r
   unfolding answerText
   listing-whole h p = rw (e, take-all n run h) p
 
-  pub listing-front : Lists (take n run) l at (beneathText n (take n run)) m r → Lists run l at (answerText (listingIn a run)) m r
+  pub listing-front : SaysOf documentLimit (take n run) l at (beneathText n (take n run)) m r → SaysOf documentLimit run l at (answerText (listingIn a run)) m r
   unfolding answerText
   listing-front p = rw e (record { puts = p .puts; short = λ h. p .short (omega (arith, length-take n run)) })
 
 -- a tidied form
 module _ (l m k : List ℕ) (at o r n : ℕ) (a : TidyAnswer) (e : a ≡ tidy.Length n) (run : List ℕ) (p : Puts l at (text "tidied ") k o) where
-  pub tidy-whole : length run ≤ n → Puts k o run m r → Puts l at (tidyText a run) m r
+  pub tidy-front : Puts k o (take n run) m r → SaysOf textBytes run l at (tidyText a run) m r
   unfolding tidyText
-  tidy-whole h q = rw (e, take-all n run h) (puts-on l k at o (text "tidied ") p m run r q)
+  tidy-front q = rw e (record { puts = puts-on l k at o (text "tidied ") p m (take n run) r q; short = tidy-short (tidy.Length n) run })
 
-  pub tidy-front : Puts k o (take n run) m r → Puts l at (tidyText a run) m r
-  unfolding tidyText
-  tidy-front q = rw e (puts-on l k at o (text "tidied ") p m (take n run) r q)
+  pub tidy-whole : length run ≤ n → Puts k o run m r → SaysOf textBytes run l at (tidyText a run) m r
+  tidy-whole h q = tidy-front (rw (take-all n run h) q)
 
 -- the test for room: the code subtracts
 module _ (n at k : ℕ) where

@@ -1,5 +1,5 @@
 -- The laws of answers' texts, for the crates above: none is longer than the longest. Assumes nothing.
-use mathlib.Core.Path.{_≡_, refl, ap, _∙_}
+use mathlib.Core.Path.{_≡_}
 use Prim.Native.Nat.{ℕ, zero, suc, _+_, _*_, _^_, _≤_, _<_}
 use mathlib.Core.Bool.{true, false}
 use mathlib.Core.List.{List, [], _∷_, _++_}
@@ -20,7 +20,7 @@ use Rattle.document_model.specs.Model.{Answer, refused, loaded, removed, decisi
 use Rattle.tidying.specs.declared.TidyAnswer.{TidyAnswer}
 use Rattle.tidying.specs.declared.TidyAnswer.the-variants as tidy
 use Rattle.replay_answers.specs.Texts.{refusedText, malformedMark, decisionText, serialsText, beneathText, answerText, tidiedText, tidyText, answerBytes, Given}
-use Rattle.replay_answers.specs.Promises.{Says}
+use Rattle.replay_answers.specs.Promises.{Says, SaysOf}
 
 -- words and a number
 numbered-short : (w : List ℕ) (n : ℕ) → n < 2 ^ 64 → length (w ++ decimalText n) ≤ length w + 20
@@ -70,6 +70,10 @@ pub tidy-short : (a : TidyAnswer) (run : List ℕ) → length run ≤ textBytes 
 unfolding tidyText
 tidy-short (tidy.Length n) run h = omega (arith, length-take n run)
 tidy-short (tidy.Refused n) run h = refused-short n
+
+-- an answer that shows a lent run within its limit
+pub says-of : (limit : ℕ) (run l m : List ℕ) (at r : ℕ) (t : List ℕ) → SaysOf limit run l at t m r → length run ≤ limit → Says l at t m r
+says-of limit run l m at r t p h = record { puts = p .puts; short = p .short h }
 
 -- where any answer has room, the whole text stands there, and the answer is the place after it
 module _ (l m : List ℕ) (at r : ℕ) (t : List ℕ) (p : Says l at t m r) (h : leb (at + answerBytes) (length l) ≡ true) where

@@ -2,7 +2,6 @@
 use Prim.Native.Nat.{ℕ, _^_, _<_, _≤_}
 use mathlib.Core.List.{List, _++_}
 use lib.ListN.{length}
-use Rattle.limits.specs.Limits.{documentLimit}
 use Rattle.ascii.specs.Decimals.{decimalText}
 use Rattle.writing.specs.Writing.{Puts}
 use Rattle.replay_answers.specs.Texts.{answerBytes}
@@ -12,10 +11,10 @@ pub record Says (before : List ℕ) (at : ℕ) (t after : List ℕ) (r : ℕ) : 
   pub puts : Puts before at t after r
   pub short : length t ≤ answerBytes
 
--- the same of a listing, where the lent run is no longer than a listing can be
-pub record Lists (run before : List ℕ) (at : ℕ) (t after : List ℕ) (r : ℕ) : Type 0 where
+-- the same of an answer that shows a lent run: it is no longer than the longest where the run is within its limit
+pub record SaysOf (limit : ℕ) (run before : List ℕ) (at : ℕ) (t after : List ℕ) (r : ℕ) : Type 0 where
   pub puts : Puts before at t after r
-  pub short : length run ≤ documentLimit → length t ≤ answerBytes
+  pub short : length run ≤ limit → length t ≤ answerBytes
 
 -- words and a number were put, and the number fits 64 bits
 pub record Numbers (before : List ℕ) (at : ℕ) (words : List ℕ) (n : ℕ) (after : List ℕ) (r : ℕ) : Type 0 where

@@ -63,7 +63,7 @@ badLineText = text "bad line"
 abbrev pub answerBytes : ℕ
 answerBytes = 7 + textBytes
 
--- answers of numbers that fit 64 bits, and of at most as many serials as documents can be loaded: the calls give no others
+-- answers whose numbers fit 64 bits, and that list at most as many serials as documents can be loaded
 unfoldable pub Given : Answer → Type 0
 Given (refused n) = Unit {0}
 Given (loaded n malformed) = n < 2 ^ 64

@@ -3,10 +3,10 @@ ghost use mathlib.Core.Path.{_≡_};
 ghost use Prim.Native.Nat.{_+_};
 ghost use lib.ListN.{length};
 ghost use lib.Dec.{leb};
-ghost use Rattle.writing.specs.Writing.{Puts};
+ghost use Rattle.limits.specs.Limits.{textBytes, documentLimit};
 ghost use Rattle.documents.specs.Answers.{loadIn, unloadIn, questionIn, featuresIn, listingIn};
 ghost use Rattle.replay_answers.specs.Texts.{refusedText, beneathText, answerText, tidyText, badLineText, answerBytes};
-ghost use Rattle.replay_answers.specs.Promises.{Numbers, Says, Lists};
+ghost use Rattle.replay_answers.specs.Promises.{Numbers, Says, SaysOf};
 use documents::FeaturesAnswer;
 use documents::ListingAnswer;
 use documents::LoadAnswer;
@@ -93,7 +93,7 @@ pub fn put_features(run: &mut [u8], at: usize, a: FeaturesAnswer) -> usize
 
 // Puts a listing: the count, and serials, each after a space.
 fn put_serials(run: &mut [u8], at: usize, n: usize, serials: &[u32]) -> usize
-    ensures { λ r. ⌜ Lists (now (serials .entry)) (now (run .entry)) at (beneathText n (now (serials .entry))) (now (run .exit)) r ⌝ }
+    ensures { λ r. ⌜ SaysOf documentLimit (now (serials .entry)) (now (run .entry)) at (beneathText n (now (serials .entry))) (now (run .exit)) r ⌝ }
 {
     let mut o = put_numbered(run, at, b"beneath ", n as u64);
     let mut i: usize = 0;
@@ -106,7 +106,7 @@ fn put_serials(run: &mut [u8], at: usize, n: usize, serials: &[u32]) -> usize
 
 // Puts the answer of a listing, whose serials are the first of a lent run.
 pub fn put_listing(run: &mut [u8], at: usize, a: ListingAnswer, serials: &[u32]) -> usize
-    ensures { λ r. ⌜ Lists (now (serials .entry)) (now (run .entry)) at (answerText (listingIn a (now (serials .entry)))) (now (run .exit)) r ⌝ }
+    ensures { λ r. ⌜ SaysOf documentLimit (now (serials .entry)) (now (run .entry)) at (answerText (listingIn a (now (serials .entry)))) (now (run .exit)) r ⌝ }
 {
     match a {
         ListingAnswer::Refused(n) => put_refused(run, at, n),
@@ -121,7 +121,7 @@ pub fn put_listing(run: &mut [u8], at: usize, a: ListingAnswer, serials: &[u32])
 
 // Puts the answer of tidying, whose form is the front of a lent run.
 pub fn put_tidied(run: &mut [u8], at: usize, a: TidyAnswer, tidied: &[u8]) -> usize
-    ensures { λ r. ⌜ Puts (now (run .entry)) at (tidyText a (now (tidied .entry))) (now (run .exit)) r ⌝ }
+    ensures { λ r. ⌜ SaysOf textBytes (now (tidied .entry)) (now (run .entry)) at (tidyText a (now (tidied .entry))) (now (run .exit)) r ⌝ }
 {
     match a {
         TidyAnswer::Refused(n) => put_refused(run, at, n),

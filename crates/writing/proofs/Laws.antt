@@ -66,5 +66,5 @@ module _ (l m : List ℕ) (at r n : ℕ) where
   pub puts-small : n < 10 → Puts l at ((48 + n) ∷ []) m r → Puts l at (decimalText n) m r
   puts-small h p = rw (decimal-small n h) p
 
-  pub puts-great : (o q : ℕ) (k : List ℕ) → 10 ≤ n → Puts l at (decimalText (n / 10)) k o → Puts k o ((48 + n % 10) ∷ []) m q → Puts l at (decimalText n) m q
-  puts-great o q k h p g = rw (decimal-great n h) (puts-on l k at o (decimalText (n / 10)) p m ((48 + n % 10) ∷ []) q g)
+  pub puts-great : (o : ℕ) (k : List ℕ) → 10 ≤ n → Puts l at (decimalText (n / 10)) k o → Puts k o ((48 + n % 10) ∷ []) m r → Puts l at (decimalText n) m r
+  puts-great o k h p g = rw (decimal-great n h) (puts-on l k at o (decimalText (n / 10)) p m ((48 + n % 10) ∷ []) r g)

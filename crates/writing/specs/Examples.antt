@@ -1,7 +1,6 @@
 -- Texts put into short runs, and numbers in decimal, by computation.
-use Prim.Native.Nat.{ℕ}
 use mathlib.Core.Path.{_≡_, refl}
-use mathlib.Core.List.{List, []}
+use mathlib.Core.List.{[]}
 use Rattle.ascii.specs.Literals.{text}
 use Rattle.ascii.specs.Decimals.{decimalText}
 use Rattle.writing.specs.Writing.{withText, placeAfter}
