@@ -38,7 +38,7 @@ unfolding fieldsFrom
 fields-other run after j k [] e h = refl
 fields-other run after j k (f ∷ fs) e h = rw (field-other run after j k f e (omega arith), fields-other run after j (suc k) fs e (omega arith))
 
-many-stays : (s : Text) → readOn tooMany s ≡ tooMany
+pub many-stays : (s : Text) → readOn tooMany s ≡ tooMany
 unfolding readOn
 many-stays [] = refl
 many-stays (b ∷ s) = many-stays s
