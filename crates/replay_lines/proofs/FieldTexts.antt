@@ -196,15 +196,16 @@ percent-no-digits (x ∷ xs) e = go (isPercent x) refl e (λ g. percent-no-digit
 percent-name : (u : Text) → hasPercent u ≡ true → nameOf u ≡ name.Unknown
 unfolding nameOf hasPercent pick
 percent-name u e =
-    rw
-    (percent-differs u (text "top") e refl,
-     percent-differs u (text "frame") e refl,
-     percent-differs u (text "unload") e refl,
-     percent-differs u (text "ask") e refl,
-     percent-differs u (text "enabled") e refl,
-     percent-differs u (text "beneath") e refl,
-     percent-differs u (text "forecast") e refl,
-     percent-differs u (text "tidy") e refl)
+    rw (
+      percent-differs u (text "top") e refl,
+      percent-differs u (text "frame") e refl,
+      percent-differs u (text "unload") e refl,
+      percent-differs u (text "ask") e refl,
+      percent-differs u (text "enabled") e refl,
+      percent-differs u (text "beneath") e refl,
+      percent-differs u (text "forecast") e refl,
+      percent-differs u (text "tidy") e refl,
+    )
 
 percent-number : (u : Text) → hasPercent u ≡ true → numberOf u ≡ none
 unfolding numberOf isNumber pick
@@ -235,15 +236,16 @@ same-cut (suc n) (x ∷ xs) (y ∷ ys) h = rw (same-cut n xs ys (le-of-suc-le-su
 cut-name : (u : Text) → nameOf (take fieldBytes u) ≡ nameOf u
 unfolding nameOf
 cut-name u =
-    rw
-    (same-cut fieldBytes u (text "top") (omega arith),
-     same-cut fieldBytes u (text "frame") (omega arith),
-     same-cut fieldBytes u (text "unload") (omega arith),
-     same-cut fieldBytes u (text "ask") (omega arith),
-     same-cut fieldBytes u (text "enabled") (omega arith),
-     same-cut fieldBytes u (text "beneath") (omega arith),
-     same-cut fieldBytes u (text "forecast") (omega arith),
-     same-cut fieldBytes u (text "tidy") (omega arith))
+    rw (
+      same-cut fieldBytes u (text "top") (omega arith),
+      same-cut fieldBytes u (text "frame") (omega arith),
+      same-cut fieldBytes u (text "unload") (omega arith),
+      same-cut fieldBytes u (text "ask") (omega arith),
+      same-cut fieldBytes u (text "enabled") (omega arith),
+      same-cut fieldBytes u (text "beneath") (omega arith),
+      same-cut fieldBytes u (text "forecast") (omega arith),
+      same-cut fieldBytes u (text "tidy") (omega arith),
+    )
 
 cut-number : (u : Text) → numberOf (take fieldBytes u) ≡ numberOf u
 cut-number u = go (leb (length u) fieldBytes) refl

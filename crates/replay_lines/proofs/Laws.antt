@@ -87,7 +87,7 @@ module _ (u : Text) (us : List Text) (ih : Calls us) (ended : List Field) (f : F
   next-call false e =
       let fs = allOf ended f (u ∷ us) in
       let l : fieldLimit < length (map keptSays fs) =
-        omega (arith, ltb-false (suc (length ended)) fieldLimit e, length-map fs keptSays, length-append ended (f ∷ map (readField newField) (u ∷ us))) in
+      omega (arith, ltb-false (suc (length ended)) fieldLimit e, length-map fs keptSays, length-append ended (f ∷ map (readField newField) (u ∷ us))) in
       sym (many-bad (map keptSays fs) l)
 
 calls : (us : List Text) → Calls us

@@ -1,3 +1,4 @@
+-- `frame_line` is right: the fields are counted and read in the row's order.
 use mathlib.Core.Path.{refl}
 use Rattle.replay_lines.specs.Format.{frameRow}
 use Rattle.replay_lines.proofs.Choices.{rows, fields-hit, given-number, given-text, given-attributes, no-text}

@@ -1,3 +1,4 @@
+-- `name` is right: the comparisons are the definition's, in its order.
 use Rattle.replay_lines.specs.Format.{nameOf}
 use Rattle.replay_lines.proofs.Choices.{picks}
 use borrow.Author.Needs.{needs}
