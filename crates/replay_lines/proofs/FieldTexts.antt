@@ -1,25 +1,25 @@
 -- A field read byte by byte says what the field's text says, cut. Assumes nothing.
 use mathlib.Core.Path.{_≡_, refl, ap, _∙_, sym}
-use Prim.Native.Nat.{ℕ, zero, suc, _+_, _-_, _≤_, _<_, min}
-use mathlib.Core.List.{List, [], _∷_, _++_, append-assoc, append-nil}
+use Prim.Native.Nat.{ℕ, zero, suc, _+_, _≤_, _<_}
+use mathlib.Core.List.{[], _∷_, _++_, append-nil}
 use mathlib.Core.Bool.{Bool, true, false, not, _&&_, _||_}
 use mathlib.Core.Option.{Option, some, none}
 use native.Mathlib.Omega.{arith}
 use native.Mathlib.Nat.{le-of-suc-le-suc}
-use lib.ListN.{length, take, drop, length-append, length-take}
-use lib.Seq.{take-all, take-take, take-append-le, take-nil, append-snoc}
+use lib.ListN.{length, take, length-append, length-take}
+use lib.Seq.{take-all, take-take, take-append-le, append-snoc}
 use lib.Dec.{ltb, leb, eqb}
-use borrow.Author.Tests.{lt-ltb, le-ltb, ltb-true, ltb-false, leb-true, leb-false, eqb-true}
+use borrow.Author.Tests.{ltb-true, ltb-false, leb-true, leb-false, eqb-true}
 use Rattle.limits.specs.Limits.{textBytes}
 use Rattle.ascii.proofs.Clash.{clash}
-use Rattle.ascii.proofs.Bytes.{and-false, or-false, or-true, and-left, and-right}
+use Rattle.ascii.proofs.Bytes.{and-false, or-false, or-true}
 use Rattle.ascii.proofs.Texts.{bytes-same}
 use Rattle.ascii.specs.Bytes.{pick, isDigit}
 use Rattle.ascii.specs.Literals.{text}
 use Rattle.ascii.specs.Reading.{headOf, isEmpty}
 use Rattle.ascii.specs.Texts.{every, sameBy, sameBytes}
 use Rattle.replay_lines.specs.Format.{Text, Said, Sandbox, nothing, isPercent, isHex, hexByte, withByte, decoded, undone, isNumber, numberOf, markOf, sandboxed, sandboxOf, nameOf, says}
-use Rattle.replay_lines.specs.Reading.{Field, fieldBytes, keptText, newField, keepByte, fieldByte, isWhole, isLiteral, keptSandbox, keptSays, cut}
+use Rattle.replay_lines.specs.Reading.{Field, fieldBytes, keptText, newField, keepByte, fieldByte, isWhole, keptSandbox, keptSays, cut}
 use Rattle.replay_lines.specs.declared.CallName.{CallName}
 use Rattle.replay_lines.specs.declared.CallName.the-variants as name
 use Rattle.replay_lines.specs.declared.Place.{Place}

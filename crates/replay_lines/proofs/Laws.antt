@@ -1,19 +1,18 @@
 -- The laws of lines that the crates above cite: read in any pieces, a line is the call that the format says, its texts cut. Assumes nothing.
 use mathlib.Core.Path.{_≡_, refl, ap, _∙_, sym}
-use Prim.Native.Nat.{ℕ, zero, suc, _+_, _≤_, _<_}
-use mathlib.Core.List.{List, [], _∷_, _++_, map, append-assoc}
+use Prim.Native.Nat.{ℕ, suc, _+_, _<_}
+use mathlib.Core.List.{List, [], _∷_, _++_, map}
 use mathlib.Core.Bool.{Bool, true, false, not}
 use native.Mathlib.Omega.{arith}
 use lib.ListN.{length, length-append, length-map}
 use lib.Seq.{append-snoc}
 use lib.Dec.{ltb}
-use borrow.Author.Tests.{lt-ltb, le-ltb, ltb-true, ltb-false}
+use borrow.Author.Tests.{ltb-true, ltb-false}
 use Rattle.ascii.specs.Bytes.{pick}
 use Rattle.ascii.specs.Reading.{runOf, past}
 use Rattle.ascii.specs.Texts.{cutAt, prepended}
 use Rattle.ascii.proofs.Texts.{cut-run, restCut}
-use Rattle.replay_lines.specs.Format.{Text, Line, Said, isTab, says, callOf, fieldsOf, lineOf}
-use Rattle.replay_lines.specs.Format.Line.{badLine}
+use Rattle.replay_lines.specs.Format.{Text, isTab, says, callOf, lineOf}
 use Rattle.replay_lines.specs.Reading.{Field, Reading, fieldLimit, newField, fieldByte, nextField, readByte, readOn, newReading, keptSays, lineFrom, cutLine}
 use Rattle.replay_lines.specs.Reading.Reading.{reading, tooMany}
 use Rattle.replay_lines.specs.Answers.{readingIn, lineIn}
@@ -106,7 +105,7 @@ fields-call us u ts e =
     let c : lineFrom (fieldsAfter [] (readField newField u) ts) ≡ callOf (map keptSays (map (readField newField) (u ∷ ts))) = calls ts [] (readField newField u) (omega arith) in
     rw e (c ∙ (ap callOf (fields-say (u ∷ ts)) ∙ cut-call (map says (u ∷ ts))))
 
--- A LINE, READ BYTE BY BYTE, IS THE CALL THAT THE FORMAT SAYS, ITS TEXTS CUT
+-- a line, read byte by byte, is the call that the format says, its texts cut
 pub line-read : (s : Text) → lineFrom (readOn newReading s) ≡ cutLine (lineOf s)
 unfolding lineOf
 line-read s =
