@@ -1,12 +1,11 @@
 -- Choices as the code makes them: by a test, and by what a reading found. Assumes nothing.
-use mathlib.Core.Path.{_≡_, refl, sym, ap, _∙_}
-use Prim.Native.Nat.{ℕ, _≤_, _<_}
-use mathlib.Core.List.{List, map}
+use mathlib.Core.Path.{_≡_, refl, sym, _∙_}
+use Prim.Native.Nat.{ℕ}
+use mathlib.Core.List.{List}
 use mathlib.Core.Bool.{Bool, true, false}
 use mathlib.Core.Option.{Option, some, none}
 use native.Mathlib.Omega.{arith}
 use lib.ListN.{length, take, length-take, length-map}
-use lib.Dec.{eqb}
 use borrow.Author.Tests.{eq-eqb, ne-eqb}
 use Rattle.ascii.specs.Bytes.{pick}
 use Rattle.ascii.specs.Texts.{partIn}
@@ -14,7 +13,7 @@ use Rattle.ascii.specs.declared.TextRange.{TextRange}
 use Rattle.containers.specs.Attributes.{Attributes}
 use Rattle.replay_lines.specs.Format.{Text, Line, Sandbox, given, ofFields}
 use Rattle.replay_lines.specs.Format.Line.{badLine}
-use Rattle.replay_lines.specs.Reading.{fieldLimit, keptSays}
+use Rattle.replay_lines.specs.Reading.{keptSays}
 use Rattle.replay_lines.specs.Answers.{fieldsFrom, saidIn, Ready, numberIn, markIn, textIn, sandboxRange, sandboxIn, attributesIn, attributeFieldsIn}
 use Rattle.replay_lines.specs.declared.Fields.{Fields}
 use Rattle.replay_lines.specs.declared.NumberField.{NumberField}

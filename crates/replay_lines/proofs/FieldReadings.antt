@@ -1,27 +1,24 @@
 -- What a field's readings in the code say of the field. Assumes nothing.
 use mathlib.Core.Path.{_≡_, refl, ap, _∙_, sym}
-use Prim.Native.Nat.{ℕ, zero, suc, _+_, _-_, _*_, _≤_, _<_, min}
-use mathlib.Core.List.{List, [], _∷_, map}
+use Prim.Native.Nat.{ℕ, suc, _+_, _-_, _*_, _≤_, _<_, min}
+use mathlib.Core.List.{List, [], _∷_}
 use mathlib.Core.Bool.{Bool, true, false, not, _&&_}
 use mathlib.Core.Option.{Option, some, none}
 use native.Mathlib.Omega.{arith}
-use lib.ListN.{length, take, drop, getD, length-take, length-drop, length-map}
+use lib.ListN.{length, take, drop, getD, length-drop, length-map}
 use lib.Seq.{take-all, take-nil, drop-drop}
-use lib.Dec.{eqb}
 use borrow.Author.Tests.{eq-eqb, ne-eqb, not-true, not-false}
 use mir.Val.{Val}
 use denote.Laws.{Is}
 use denote.Struct.Declared.{row}
-use Rattle.limits.specs.Limits.{textBytes}
 use Rattle.ascii.specs.Bytes.{pick}
 use Rattle.ascii.specs.Literals.{text}
 use Rattle.ascii.specs.Reading.{headOf}
 use Rattle.ascii.specs.Places.{IsByte}
 use Rattle.ascii.specs.Texts.{partOf, sameBytes}
 use Rattle.ascii.proofs.Texts.{part-in}
-use Rattle.ascii.specs.declared.TextRange.{TextRange}
-use Rattle.replay_lines.specs.Format.{Text, Said, Sandbox, nothing, nameOf, numberOf, markOf, numberAt, markAt, textAt, sandboxAt}
-use Rattle.replay_lines.specs.Reading.{Field, fieldLimit, fieldBytes, lineBytes, keptText, isWhole, isLiteral, keptSandbox, keptSays}
+use Rattle.replay_lines.specs.Format.{Said, nothing, nameOf, numberOf, markOf, numberAt, markAt, textAt, sandboxAt}
+use Rattle.replay_lines.specs.Reading.{fieldLimit, fieldBytes, lineBytes, keptText, isWhole, keptSandbox, keptSays}
 use Rattle.replay_lines.specs.Answers.{slotOf, keptIn, fieldIn, saidIn, literalAs, IsFieldAt}
 use Rattle.replay_lines.specs.declared.CallName.{CallName}
 use Rattle.replay_lines.specs.declared.CallName.the-variants as name

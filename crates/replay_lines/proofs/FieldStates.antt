@@ -1,22 +1,21 @@
 -- The states of fields beside the run: a byte read, and the fields of a line. Assumes nothing.
 use mathlib.Core.Path.{_≡_, refl, ap, _∙_, sym}
-use Prim.Native.Nat.{ℕ, zero, suc, _+_, _-_, _*_, _≤_, _<_, min}
-use mathlib.Core.List.{List, [], _∷_, _++_, map}
-use mathlib.Core.Bool.{Bool, true, false, not, _||_, _&&_}
+use Prim.Native.Nat.{ℕ, zero, suc, _+_, _≤_, _<_, min}
+use mathlib.Core.List.{List, [], _∷_, map}
+use mathlib.Core.Bool.{Bool, true, false, _||_}
 use native.Mathlib.Omega.{arith}
 use native.Mathlib.Nat.{le-of-suc-le-suc, not-suc-le-zero}
-use lib.ListN.{length, take, drop, getD, length-take, length-map, List·getD-eq-default}
+use lib.ListN.{length, take, getD, length-take, length-map, List·getD-eq-default}
 use lib.Seq.{getD-take}
 use lib.Dec.{eqb}
 use borrow.Author.Tests.{eq-eqb, ne-eqb}
 use Rattle.ascii.specs.Bytes.{pick}
 use Rattle.ascii.specs.Reading.{isEmpty}
-use Rattle.replay_lines.specs.Format.{Text, Said, nothing, isPercent, isHex, hexByte}
-use Rattle.replay_lines.specs.Reading.{Field, fieldLimit, fieldBytes, lineBytes, keepByte, byteAt, fieldByte, keptSays}
-use Rattle.replay_lines.specs.Answers.{slotOf, keptIn, fieldIn, fieldsFrom, saidIn, Elsewhere, IsKept, IsByteRead, IsFieldAt, freshField, movedAs}
+use Rattle.replay_lines.specs.Format.{nothing, isHex, hexByte}
+use Rattle.replay_lines.specs.Reading.{fieldLimit, fieldBytes, lineBytes, fieldByte, keptSays}
+use Rattle.replay_lines.specs.Answers.{keptIn, fieldIn, fieldsFrom, saidIn, Elsewhere, IsKept, IsByteRead, IsFieldAt, freshField, movedAs}
 use Rattle.replay_lines.specs.declared.FieldState.{FieldState}
 use Rattle.replay_lines.specs.declared.Fields.{Fields}
-use Rattle.replay_lines.specs.declared.Place.{Place}
 use Rattle.replay_lines.specs.declared.Place.the-variants.{Plain, Percent, Digit, Broken}
 use Rattle.replay_lines.proofs.Slots.{kept-long}
 

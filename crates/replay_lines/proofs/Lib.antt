@@ -6,3 +6,5 @@ pub mod Choices
 pub mod Numbers
 pub mod Lines
 pub mod CutLines
+pub mod FieldTexts
+pub mod Laws

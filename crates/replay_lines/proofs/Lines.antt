@@ -1,23 +1,20 @@
 -- The state of a line beside the run: a TAB, a byte, the end. Assumes nothing.
 use mathlib.Core.Path.{_≡_, refl, ap, _∙_, sym}
-use Prim.Native.Nat.{ℕ, zero, suc, _+_, _-_, _*_, _≤_, _<_, min}
-use mathlib.Core.List.{List, [], _∷_, _++_, map}
-use mathlib.Core.Bool.{Bool, true, false}
+use Prim.Native.Nat.{ℕ, suc, _+_, _≤_, _<_}
+use mathlib.Core.List.{List, [], _∷_, _++_}
 use native.Mathlib.Omega.{arith}
 use native.Mathlib.Numerals.{add-one}
-use lib.ListN.{length, take, drop, getD, set, length-take, length-set, drop-of-length-le}
+use lib.ListN.{length, take, drop, getD, set, length-take, drop-of-length-le}
 use lib.Seq.{take-suc-set, drop-cons}
-use lib.Dec.{ltb, eqb}
-use borrow.Author.Tests.{lt-ltb, le-ltb, eq-eqb, ne-eqb}
+use borrow.Author.Tests.{lt-ltb, le-ltb, ne-eqb}
 use Rattle.ascii.specs.Bytes.{pick}
 use Rattle.replay_lines.specs.Format.{Text, Line, Said, nothing, rowOf, callOf}
 use Rattle.replay_lines.specs.Format.Line.{badLine}
-use Rattle.replay_lines.specs.Reading.{Field, Reading, fieldLimit, newField, fieldByte, nextField, readByte, readOn, keptSays, lineFrom}
+use Rattle.replay_lines.specs.Reading.{Field, Reading, fieldLimit, nextField, readByte, readOn, lineFrom}
 use Rattle.replay_lines.specs.Reading.Reading.{reading, tooMany}
-use Rattle.replay_lines.specs.Answers.{slotOf, keptIn, fieldIn, fieldsFrom, readingOf, saidIn, Elsewhere, IsByteRead, freshField}
+use Rattle.replay_lines.specs.Answers.{keptIn, fieldIn, fieldsFrom, readingOf, saidIn, Elsewhere, IsByteRead, freshField}
 use Rattle.replay_lines.specs.declared.CallName.{CallName}
 use Rattle.replay_lines.specs.declared.FieldState.{FieldState}
-use Rattle.replay_lines.specs.declared.Fields.{Fields}
 use Rattle.replay_lines.proofs.FieldStates.{fields-long}
 
 -- one field more
@@ -38,7 +35,7 @@ unfolding fieldsFrom
 fields-other run after j k [] e h = refl
 fields-other run after j k (f ∷ fs) e h = rw (field-other run after j k f e (omega arith), fields-other run after j (suc k) fs e (omega arith))
 
-many-stays : (s : Text) → readOn tooMany s ≡ tooMany
+pub many-stays : (s : Text) → readOn tooMany s ≡ tooMany
 unfolding readOn
 many-stays [] = refl
 many-stays (b ∷ s) = many-stays s

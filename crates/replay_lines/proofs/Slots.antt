@@ -1,20 +1,19 @@
 -- A field's part of the run: bytes kept in it, and those of other fields. Assumes nothing.
-use mathlib.Core.Path.{_≡_, refl, ap, _∙_, sym}
+use mathlib.Core.Path.{_≡_, refl, _∙_, sym}
 use Prim.Native.Nat.{ℕ, suc, _+_, _-_, _*_, _≤_, _<_, min}
-use mathlib.Core.List.{List, [], _∷_, _++_}
+use mathlib.Core.List.{List}
 use mathlib.Core.Bool.{Bool, true, false}
 use native.Mathlib.Omega.{arith}
 use native.Mathlib.Numerals.{add-one}
-use lib.ListN.{length, take, drop, set, length-take, length-drop, length-set}
-use lib.Seq.{take-take, take-all, take-set-le, take-suc-set, drop-set-lt, drop-set-add, drop-drop}
+use lib.ListN.{length, take, drop, set, length-take, length-drop}
+use lib.Seq.{take-take, take-all, take-set-le, take-suc-set, drop-set-lt, drop-set-add}
 use lib.Dec.{ltb}
 use borrow.Author.Tests.{lt-ltb, le-ltb, ltb-true, ltb-false}
 use Rattle.ascii.specs.Bytes.{pick}
 use Rattle.ascii.specs.Texts.{partOf}
 use Rattle.ascii.proofs.Texts.{part-in}
-use Rattle.replay_lines.specs.Format.{Text}
 use Rattle.replay_lines.specs.Reading.{fieldLimit, fieldBytes, lineBytes, keepByte}
-use Rattle.replay_lines.specs.Answers.{slotOf, keptIn, Elsewhere, IsKept}
+use Rattle.replay_lines.specs.Answers.{slotOf, keptIn, IsKept}
 
 -- a byte stored in one part leaves the others
 slot-other : (run : List ℕ) (j n b k : ℕ) → n < fieldBytes → (k ≡ j → ⊥) → slotOf (set run (j * fieldBytes + n) b) k ≡ slotOf run k

@@ -1,8 +1,8 @@
 -- What the code's states and answers say beside the run that the texts are kept in.
 use mathlib.Core.Path.{_≡_}
-use Prim.Native.Nat.{ℕ, suc, _+_, _*_, _≤_, min}
+use Prim.Native.Nat.{ℕ, suc, _*_, _≤_}
 use mathlib.Core.List.{List, [], _∷_, map}
-use mathlib.Core.Bool.{Bool, true, false, not, _&&_}
+use mathlib.Core.Bool.{Bool, false, not, _&&_}
 use mathlib.Core.Option.{Option, some, none}
 use lib.ListN.{length, take, drop, getD}
 use lib.Dec.{leb, ltb}

@@ -186,12 +186,14 @@ fn hex_value(b: u8) -> u8
     if low { b - 87 } else { 0 }
 }
 
+// The byte of two hex digits.
 fn hex_byte(high: u8, low: u8) -> u8
     ensures { λ r. ⌜ r ≡ hexByte high low ⌝ }
 {
     hex_value(high) * 16 + hex_value(low)
 }
 
+// A field of which nothing was read.
 fn new_field() -> FieldState
     ensures { λ r. ⌜ r ≡ freshField ⌝ }
 {
@@ -228,6 +230,7 @@ fn keep(kept: usize, b: u8, number: usize, run: &mut [u8]) -> usize
     }
 }
 
+// A field at another place of a `%`.
 fn moved(f: FieldState, place: Place) -> FieldState
     ensures { λ r. ⌜ r ≡ movedAs f place ⌝ }
 {
@@ -292,6 +295,7 @@ fn read_byte(f: FieldState, b: u8, number: usize, run: &mut [u8]) -> FieldState
     }
 }
 
+// Reads a piece into a run that has a part for each field.
 fn read_piece(state: LineState, piece: &[u8], run: &mut [u8]) -> LineState
     requires { ⌜ length (now run) ≡ lineBytes ⌝ }
     ensures { λ r. ⌜ readingIn (now (run .exit)) r ≡ readOn (readingIn (now (run .entry)) state) (now (piece .entry)) ⌝ }
@@ -452,6 +456,7 @@ fn kept(n: usize, j: usize, run: &[u8]) -> &[u8]
     ascii::part(run, from, to)
 }
 
+// Whether each `%` so far has its two digits.
 fn is_whole(p: Place) -> bool
     ensures { λ r. ⌜ r ≡ isWhole p ⌝ }
 {
@@ -471,6 +476,7 @@ fn is_literal(f: FieldState) -> bool
     is_whole(p) & !f.escaped
 }
 
+// The field at a place, by each of its readings.
 fn name_at(fs: Fields, j: usize, run: &[u8]) -> CallName
     requires { ⌜ (j < fieldLimit) × (length (now run) ≡ lineBytes) ⌝ }
     ensures { λ r. ⌜ r ≡ getD (saidIn (now (run .entry)) fs) j nothing .name ⌝ }
@@ -582,6 +588,7 @@ fn attributes_at(fs: Fields, j: usize, run: &[u8]) -> AttributeFields
     })
 }
 
+// The rows of the format's table.
 fn top_line(fs: Fields, run: &[u8]) -> Line
     requires { ⌜ Ready fs (now run) ⌝ }
     ensures { λ r. ⌜ lineIn (now (run .entry)) r ≡ topRow (saidIn (now (run .entry)) fs) ⌝ }
