@@ -163,3 +163,12 @@ stored-on l before run n i z h k lt e = rw e (stored-more l before i z (omega ar
 
 pub stored-end : (l before run : List ℕ) (n i : ℕ) → i ≤ n → n ≤ i → run ≡ stored (take i l) before → run ≡ stored (take n l) before
 stored-end l before run n i h k e = let q : n ≡ i = omega arith in rw q e
+
+-- no more serials are beneath a document than documents are loaded
+pub beneath-fewer : (s : ℕ) (ds : List Document) → length (serialsBeneath s ds) ≤ length ds
+unfolding serialsBeneath
+beneath-fewer s [] = omega arith
+beneath-fewer s (d ∷ ds) = go (elem s (d .identity .above)) (beneath-fewer s ds)
+  where
+    go : (b : Bool) → length (serialsBeneath s ds) ≤ length ds → length (pick b (d .identity .serial ∷ serialsBeneath s ds) (serialsBeneath s ds)) ≤ length (d ∷ ds)
+    go = unfold pick in (elim [ true ↦ λ h. omega arith | false ↦ λ h. omega arith ])

@@ -13,4 +13,4 @@ pub use Rattle.document_model.proofs.Agreement.{Agrees, agrees}
 -- the first values of a function
 pub use Rattle.document_model.proofs.Values.{values-at, values-past, values-length, values-none, values-same, values-snoc}
 -- documents looked at one after the other: what is found, stays and is listed; serials stored into a run
-pub use Rattle.document_model.proofs.DocumentLists.{elem-here, elem-on, elem-end, find-here, find-on, find-end, at-or-beneath, remaining-none, remaining-goes, remaining-stays, removed-none, removed-goes, removed-stays, serials-none, serials-more, serials-same, stored-none, stored-more, stored-on, stored-end}
+pub use Rattle.document_model.proofs.DocumentLists.{elem-here, elem-on, elem-end, find-here, find-on, find-end, at-or-beneath, remaining-none, remaining-goes, remaining-stays, removed-none, removed-goes, removed-stays, serials-none, serials-more, serials-same, stored-none, stored-more, stored-on, stored-end, beneath-fewer}

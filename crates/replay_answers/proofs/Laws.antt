@@ -1,5 +1,5 @@
 -- The laws of answers' texts, for the crates above: none is longer than the longest. Assumes nothing.
-use mathlib.Core.Path.{_≡_}
+use mathlib.Core.Path.{_≡_, refl}
 use Prim.Native.Nat.{ℕ, zero, suc, _+_, _*_, _^_, _≤_, _<_}
 use mathlib.Core.Bool.{true, false}
 use mathlib.Core.List.{List, [], _∷_, _++_}
@@ -85,3 +85,16 @@ module _ (l m : List ℕ) (at r : ℕ) (t : List ℕ) (p : Says l at t m r) (h :
 
   pub says-after : r ≡ at + length t
   says-after = puts-after l m at r t (p .puts) room
+
+-- what the texts of a listing and of tidying are made of
+pub listing-text : (n : ℕ) (run : List ℕ) → answerText (serials n run) ≡ beneathText n (take n run)
+unfolding answerText
+listing-text n run = refl
+
+pub tidied-text : (n : ℕ) (run : List ℕ) → tidyText (tidy.Length n) run ≡ tidiedText (take n run)
+unfolding tidyText
+tidied-text n run = refl
+
+pub tidy-refused : (n : Refusal) (run : List ℕ) → tidyText (tidy.Refused n) run ≡ text "refused " ++ decimalText (refusalNumber n)
+unfolding tidyText refusedText
+tidy-refused n run = refl

@@ -1,11 +1,12 @@
 // A line of the replay format on a table of documents: the call that it is, made, and its answer put into a lent run.
 ghost use mathlib.Core.Path.{_≡_};
-ghost use Prim.Native.Nat.{min};
+ghost use Prim.Native.Nat.{min, _≤_};
 ghost use lib.ListN.{length};
 ghost use Rattle.ascii.specs.Texts.{partIn};
 ghost use Rattle.tidying.specs.Tidied.{tidied};
 ghost use Rattle.tidying.specs.Answers.{tidyAnswer};
 ghost use Rattle.document_model.specs.Model.{topLoad, framedLoad, unload, question, enabledFeatures, listing, forecastOf, answerTo};
+ghost use Rattle.document_loads.specs.Loads.{attributes};
 ghost use Rattle.document_table.specs.Tables.{view};
 ghost use Rattle.documents.specs.Answers.{Valid};
 ghost use Rattle.writing.specs.Writing.{Puts};
@@ -41,7 +42,7 @@ fn text(texts: &[u8], p: TextRange) -> &[u8]
 }
 
 fn least(a: usize, b: usize) -> usize
-    ensures { λ r. ⌜ r ≡ min a b ⌝ }
+    ensures { λ r. ⌜ (r ≡ min a b) × (r ≤ b) ⌝ }
 {
     if a < b { a } else { b }
 }
@@ -68,12 +69,37 @@ fn top_line(t: Table, l: TopLine, texts: &[u8], out: &mut [u8], at: usize) -> An
     }
 }
 
+// A framed load, and its answer put.
+fn frame_put(
+    t: Table,
+    container: u32,
+    origin: &[u8],
+    src: &[u8],
+    marks: FrameMarks,
+    allow: &[u8],
+    sandbox: &[u8],
+    header: &[u8],
+    out: &mut [u8],
+    at: usize,
+) -> Answered
+    requires { ⌜ Valid t ⌝ }
+    ensures { λ r. ⌜ Makes (framedLoad container (now (header .entry)) (now (origin .entry)) (attributes (now (allow .entry)) marks (now (sandbox .entry)) (now (src .entry)))) t (now (out .entry)) at (now (out .exit)) r ⌝ }
+{
+    let r = documents::load_framed(t, container, origin, src, marks, allow, sandbox, header);
+    let table = r.table;
+    let a = r.answer;
+    Answered {
+        table,
+        to: replay_answers::put_load(out, at, a),
+    }
+}
+
 fn frame_line(t: Table, l: FrameLine, texts: &[u8], out: &mut [u8], at: usize) -> Answered
     requires { ⌜ Valid t ⌝ }
     ensures { λ r. ⌜ Makes (framedLoad (l .container) (partIn (now (texts .entry)) (l .header)) (partIn (now (texts .entry)) (l .origin)) (attributesIn (now (texts .entry)) (l .attributes))) t (now (out .entry)) at (now (out .exit)) r ⌝ }
 {
     let f = l.attributes;
-    let r = documents::load_framed(
+    frame_put(
         t,
         l.container,
         text(texts, l.origin),
@@ -82,13 +108,9 @@ fn frame_line(t: Table, l: FrameLine, texts: &[u8], out: &mut [u8], at: usize) -
         text(texts, f.allow),
         text(texts, f.sandbox.text),
         text(texts, l.header),
-    );
-    let table = r.table;
-    let a = r.answer;
-    Answered {
-        table,
-        to: replay_answers::put_load(out, at, a),
-    }
+        out,
+        at,
+    )
 }
 
 fn unload_line(t: Table, serial: u32, out: &mut [u8], at: usize) -> Answered
@@ -139,20 +161,39 @@ fn beneath_line(t: Table, l: BeneathLine, out: &mut [u8], at: usize) -> usize
     list_into(t, l.serial, &mut places[..n], out, at)
 }
 
+// A forecast, and its answer put.
+fn forecast_put(
+    t: Table,
+    container: u32,
+    src: &[u8],
+    marks: FrameMarks,
+    allow: &[u8],
+    sandbox: &[u8],
+    out: &mut [u8],
+    at: usize,
+) -> usize
+    requires { ⌜ Valid t ⌝ }
+    ensures { λ r. ⌜ Puts (now (out .entry)) at (answerText (answerTo (forecastOf container (attributes (now (allow .entry)) marks (now (sandbox .entry)) (now (src .entry)))) (view t))) (now (out .exit)) r ⌝ }
+{
+    let a = documents::forecast(t, container, src, marks, allow, sandbox);
+    replay_answers::put_features(out, at, a)
+}
+
 fn forecast_line(t: Table, l: ForecastLine, texts: &[u8], out: &mut [u8], at: usize) -> usize
     requires { ⌜ Valid t ⌝ }
     ensures { λ r. ⌜ Puts (now (out .entry)) at (answerText (answerTo (forecastOf (l .container) (attributesIn (now (texts .entry)) (l .attributes))) (view t))) (now (out .exit)) r ⌝ }
 {
     let f = l.attributes;
-    let a = documents::forecast(
+    forecast_put(
         t,
         l.container,
         text(texts, f.src),
         marks(f),
         text(texts, f.allow),
         text(texts, f.sandbox.text),
-    );
-    replay_answers::put_features(out, at, a)
+        out,
+        at,
+    )
 }
 
 // A tidied form in a lent run.

@@ -5,3 +5,4 @@ pub mod Listing
 pub mod Members
 pub mod RoundTrip
 pub mod Answering
+pub mod Rooms

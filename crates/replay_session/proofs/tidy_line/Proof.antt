@@ -1,0 +1,21 @@
+-- `tidy_line` is right: no tidied form needs more bytes than the limit.
+use mathlib.Core.Path.{sym}
+use lib.ListN.{replicate}
+use lib.Seq.{length-take-le}
+use Rattle.replay_session.proofs.Answering.{tidy-is}
+use borrow.Author.Needs.{needs}
+use Rattle.replay_session.proofs.tidy_line.Statement.{statement}
+use Rattle.replay_session.proofs.tidy_line.Tie as tie
+
+pub tidy-line-spec : {M : Type 1} → statement M
+tidy-line-spec =
+    tie.close
+    (tie.spec
+    (λ c. search needs)
+    (λ c κs. search needs)
+    (λ c κs. search needs)
+    (λ c. search needs)
+    (λ c. sym (length-take-le (c .before .before .least .result) (replicate 1024 0) (c .before .before .least .ensures .1)))
+    (λ c κs. search needs)
+    (λ c. search needs)
+    (λ c. search tidy-is))
