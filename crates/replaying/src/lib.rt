@@ -1,4 +1,5 @@
 // A replayed session: calls on one new table from standard input, a line each, and their answers on standard output.
+ghost use Rattle.documents.specs.Answers.{Valid};
 use ascii::Class;
 use document_table::Table;
 use replay_lines::LINE_BYTES;
@@ -23,7 +24,7 @@ struct Session {
 }
 
 // Writes the answers that wait; a failure is told once.
-fn flush(out: &[u8], waiting: usize) -> bool {
+fn flush(out: &[u8; OUT_BYTES], waiting: usize) -> bool {
     if io::write_all(STDOUT, ascii::part(out, 0, waiting)) {
         return true;
     }
@@ -32,7 +33,10 @@ fn flush(out: &[u8], waiting: usize) -> bool {
 }
 
 // The line ends: its call is made, and its answer put behind those that wait; these are written where the next might not have room.
-fn end_line(s: Session, texts: &[u8; LINE_BYTES], out: &mut [u8]) -> Session {
+fn end_line(s: Session, texts: &[u8; LINE_BYTES], out: &mut [u8; OUT_BYTES]) -> Session
+    requires { ⌜ Valid (s .table) ⌝ }
+    ensures { λ r. ⌜ Valid (r .table) ⌝ }
+{
     let state = s.line;
     let t = s.table;
     let call = replay_lines::call(state, texts);
@@ -60,7 +64,15 @@ fn end_line(s: Session, texts: &[u8; LINE_BYTES], out: &mut [u8]) -> Session {
 }
 
 // A piece of the input: lines, the last perhaps to be continued.
-fn take_piece(s: Session, piece: &[u8], texts: &mut [u8; LINE_BYTES], out: &mut [u8]) -> Session {
+fn take_piece(
+    s: Session,
+    piece: &[u8],
+    texts: &mut [u8; LINE_BYTES],
+    out: &mut [u8; OUT_BYTES],
+) -> Session
+    requires { ⌜ Valid (s .table) ⌝ }
+    ensures { λ r. ⌜ Valid (r .table) ⌝ }
+{
     let mut cur = s;
     let mut i: usize = 0;
     while i < piece.len() {
@@ -68,11 +80,12 @@ fn take_piece(s: Session, piece: &[u8], texts: &mut [u8; LINE_BYTES], out: &mut 
         let state = cur.line;
         cur.line = replay_lines::read(state, ascii::part(piece, i, e), texts);
         if e < piece.len() {
+            let next = e + 1;
             cur = end_line(cur, texts, out);
             if cur.failed {
                 return cur;
             }
-            i = e + 1;
+            i = next;
         } else {
             cur.begun = true;
             i = e;

@@ -1,0 +1,45 @@
+-- `run` is right: each read takes one from the reads that are left, and the table stays one that the calls left.
+use mathlib.Core.Path.{_≡_}
+use lib.ListN.{length}
+use Rattle.documents.specs.Answers.{Valid}
+use borrow.Author.Needs.{needs}
+use Rattle.replaying.proofs.run.Statement.{statement}
+use Rattle.replaying.proofs.run.Tie as tie
+
+abbrev Inv-loop : tie.InvT-loop
+Inv-loop input₀ texts₀ out₀ s₀ left₀ t10 input texts out s left = Valid (s .table) × (length input ≡ 4096)
+
+abbrev μ-loop : tie.MeasureT-loop
+μ-loop input₀ texts₀ out₀ s₀ left₀ t10 input texts out s left = left
+
+pub run-spec : {M : Type 1} → statement M
+run-spec =
+    tie.close
+    (tie.spec
+    Inv-loop
+    μ-loop
+    (λ c κs. search needs)
+    (λ c κs. search needs)
+    (λ c κs. search needs)
+    (λ c. search needs)
+    (λ c. search needs)
+    (λ c κs. search needs)
+    (λ c. search needs)
+    (λ c κs. search needs)
+    (λ c. search needs)
+    (λ c. search needs)
+    (λ c. search needs)
+    (λ c κs. search needs)
+    (λ c. search needs)
+    (λ c. search needs)
+    (λ c. search needs)
+    (λ c. search needs)
+    (λ c κs. search needs)
+    (λ c. search needs)
+    (λ c. search needs)
+    (λ c. search needs)
+    (λ c. search needs)
+    (λ c κs. search needs)
+    (λ c. search needs)
+    (λ c κs. search needs)
+    (λ c. search needs))

@@ -1,0 +1,32 @@
+-- `take_piece` is right: each turn goes past at least a byte, and the table stays one that the calls left.
+use Prim.Native.Nat.{_-_}
+use lib.ListN.{length}
+use Rattle.documents.specs.Answers.{Valid}
+use borrow.Author.Needs.{needs}
+use Rattle.replaying.proofs.take_piece.Statement.{statement}
+use Rattle.replaying.proofs.take_piece.Tie as tie
+
+abbrev Inv-loop : tie.InvT-loop
+Inv-loop piece texts₀ out₀ cur₀ i₀ texts out cur i = Valid (cur .table)
+
+abbrev μ-loop : tie.MeasureT-loop
+μ-loop piece texts₀ out₀ cur₀ i₀ texts out cur i = length piece - i
+
+pub take-piece-spec : {M : Type 1} → statement M
+take-piece-spec =
+    tie.close
+    (tie.spec
+    Inv-loop
+    μ-loop
+    (λ c. search needs)
+    (λ c κs. search needs)
+    (λ c κs. search needs)
+    (λ c κs. search needs)
+    (λ c. search needs)
+    (λ c κs. search needs)
+    (λ c. search needs)
+    (λ c. search needs)
+    (λ c. search needs)
+    (λ c. search needs)
+    (λ c. search needs)
+    (λ c. search needs))
