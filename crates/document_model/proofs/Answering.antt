@@ -3,7 +3,6 @@ use mathlib.Core.Path.{_≡_, refl, ap, sym, _∙_, fun-ext}
 use Prim.Native.Nat.{ℕ}
 use mathlib.Core.List.{List, [], _∷_, _++_}
 use lib.ListN.{length, getD, drop}
-use Rattle.limits.specs.declared.Refusal.the-variants.{NotLoaded}
 use Rattle.document_model.specs.Runs.{answersBy}
 use Rattle.document_model.specs.Model.{Table, newTable, Call, Answer, refused, answerTo, tableLeft, tableAfter, answers, answersAfter}
 use Rattle.document_model.specs.History.{Event, eventsFrom, history}
@@ -36,9 +35,9 @@ at-end : (l : List Answer) (x z : Answer) → getD (l ++ (x ∷ [])) (length l) 
 at-end [] x z = refl
 at-end (y ∷ l) x z = at-end l x z
 
-after-is : (cs : List Call) (c : Call) → getD (answers (cs ++ (c ∷ []))) (length cs) (refused NotLoaded) ≡ answerTo c (tableAfter cs)
+after-is : (cs : List Call) (c : Call) → getD (answers (cs ++ (c ∷ []))) (length cs) (refused 0) ≡ answerTo c (tableAfter cs)
 unfolding answersBy
-after-is cs c = rw (answers-after cs (c ∷ []), ← as-many cs) (at-end (answers cs) (answerTo c (tableAfter cs)) (refused NotLoaded))
+after-is cs c = rw (answers-after cs (c ∷ []), ← as-many cs) (at-end (answers cs) (answerTo c (tableAfter cs)) (refused 0))
 
 further-are : (cs ds : List Call) → drop (length cs) (answers (cs ++ ds)) ≡ answersAfter cs ds
 further-are cs ds = rw (answers-after cs ds, ← as-many cs) (past (answers cs) (answersAfter cs ds))

@@ -2,7 +2,6 @@
 use Prim.Native.Nat.{ℕ}
 use mathlib.Core.List.{List, [], _∷_, _++_}
 use lib.ListN.{length, getD, drop}
-use Rattle.limits.specs.declared.Refusal.the-variants.{NotLoaded}
 use Rattle.document_model.specs.Model.{Call, Answer, refused, answers, answerAfter, answersAfter}
 use Rattle.document_model.specs.History.{Event, history}
 
@@ -30,7 +29,7 @@ abbrev pub byAnswers : (List Call → List Answer) → Answering
 byAnswers f =
     record {
       answers = f;
-      answerAfter = λ cs c. getD (f (cs ++ (c ∷ []))) (length cs) (refused NotLoaded);
+      answerAfter = λ cs c. getD (f (cs ++ (c ∷ []))) (length cs) (refused 0);
       answersAfter = λ cs ds. drop (length cs) (f (cs ++ ds));
       history = λ cs. eventsOf cs (f cs) [];
     }
