@@ -109,17 +109,17 @@ module _ where
 module _ {cs : List Call} {l : List Answer} (r : Run cs l) where
   pub run-answers : l ≡ answers cs
   unfolding answers
-  run-answers = steps-answers (r .steps) ∙ ap (answersBy answerTo tableLeft cs) (r .new)
+  run-answers = steps-answers (r .steps) ∙ ap (answersBy answerTo tableLeft cs) (r .new .1)
 
   pub run-table : view (r .left) ≡ tableAfter cs
   unfolding tableAfter
-  run-table = steps-left (r .steps) ∙ ap (leftBy tableLeft cs) (r .new)
+  run-table = steps-left (r .steps) ∙ ap (leftBy tableLeft cs) (r .new .1)
 
   pub run-runs : r .runs ≡ runsAfter cs (answers cs)
   run-runs = steps-runs (r .steps) ∙ ap (runsAfter cs) run-answers
 
   pub run-valid : Valid (r .left)
-  run-valid = steps-valid (r .steps) (r .valid)
+  run-valid = steps-valid (r .steps) (r .new .0)
 
 -- whatever answers as the code does is the model
 pub code-is-model : (f : List Call → List Answer) → AnsweredByCode f → byAnswers f ≡ theModel

@@ -5,7 +5,7 @@ use mathlib.Core.List.{List}
 use Rattle.limits.specs.Refusals.{refusalNumber}
 use Rattle.limits.specs.declared.Refusal.{Refusal}
 use Rattle.decisions.specs.Decisions.Decision.{disabled, enabled}
-use Rattle.document_model.specs.Model.{Call, Answer, refused, loaded, removed, decision, features, serials, answerTo, tableLeft, tableAfter}
+use Rattle.document_model.specs.Model.{Call, Answer, refused, loaded, removed, decision, features, serials, newTable, answerTo, tableLeft, tableAfter}
 use Rattle.document_table.specs.declared.Table.{Table}
 use Rattle.document_table.specs.Tables.{view, Sound}
 use Rattle.documents.specs.declared.QuestionAnswer.{QuestionAnswer}
@@ -49,6 +49,18 @@ unloadIn (unload.Refused n) = refused (refusalNumber n)
 abbrev pub listingIn : ListingAnswer → List ℕ → Answer
 listingIn (listing.Count n) run = serials n run
 listingIn (listing.Refused n) run = refused (refusalNumber n)
+
+-- a new table, as the model's
+abbrev pub IsNew : Table → Type 0
+IsNew t = Valid t × (view t ≡ newTable)
+
+-- a question: the answer is the model's, and the table stays
+abbrev pub Decides : Call → Table → QuestionAnswer → Type 0
+Decides c t r = questionIn r ≡ answerTo c (view t)
+
+-- the number of enabled features, or of a forecast
+abbrev pub TellsFeatures : Call → Table → FeaturesAnswer → Type 0
+TellsFeatures c t r = featuresIn r ≡ answerTo c (view t)
 
 -- a load: the answer and the table are the model's; "A refusal ... changes nothing": the very table that came in
 pub record Loads (c : Call) (t : Table) (r : Loading) : Type 0 where
