@@ -32,7 +32,7 @@ place notDictionary = 8
 place outputLong = 9
 place small = 10
 
--- the row's number
+-- "No.": the row's number in document 01's table
 abbrev pub refusalOf : Row → ℕ
 refusalOf inputLong = 4
 refusalOf badOrigin = 3

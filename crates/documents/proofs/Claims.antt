@@ -1,6 +1,5 @@
 -- Demand 3 of the calls that run: its two halves of any runs, and the seven claims of `document_model/specs/Claims` of whatever answers every list of calls as a run of the code does. Assumes nothing.
 use mathlib.Core.Path.{_≡_, refl, ap, sym, subst, _∙_}
-use mathlib.Core.Bool.{true}
 use mathlib.Core.List.{List, [], _∷_, _++_}
 use lib.ListN.{length}
 use Rattle.ascii.proofs.Clash.{clash}

@@ -50,7 +50,7 @@ abbrev pub listingIn : ListingAnswer → List ℕ → Answer
 listingIn (listing.Count n) run = serials n run
 listingIn (listing.Refused n) run = refused (refusalNumber n)
 
--- a new table, as the model's
+-- "A new table is empty"
 abbrev pub IsNew : Table → Type 0
 IsNew t = Valid t × (view t ≡ newTable)
 

@@ -50,7 +50,8 @@ AnsweredByCode f = (cs : List Call) → Run cs (f cs)
 -- ---- demand 3, of runs of the code as they happen
 
 -- "if after it a loaded document is Disabled for a feature at its own origin, every document beneath it is Disabled for it at every origin, then and after any further calls, while both stay loaded":
--- a run ends with the question to d after the calls cs, another with the question to e after the further calls ds, which may be none; loaded and beneath by the calls and answers of the second
+-- a run ends with the question to d after the calls cs, another with the question to e after the further calls ds, which may be none; loaded and beneath by the calls and answers of the second.
+-- The first calls of a run are a run (`proofs/Runs: run-start`), so both may be parts of one
 abbrev pub FlowsDownInRuns : Type 0
 FlowsDownInRuns =
     (cs ds : List Call) (d e f : ℕ) (o : Text) (l k : List Answer) (b : Answer)
