@@ -21,10 +21,11 @@ use Rattle.origins.proofs.Laws.{tuple-range, tuple-length}
 use Rattle.origins.proofs.TextParts.{origin-parts}
 use Rattle.document_model.specs.Model.{arrivesAt, stored}
 use Rattle.document_model.proofs.Parts.{stored-is}
+use Rattle.document_records.specs.Records.{originBytes}
 use Rattle.document_loads.specs.Loads.{IsAtMost, StartsWith, Arrives}
 
 -- a text copied as far as there is room stands in front
-pub copied-end : (s zeros text : List ℕ) (n i : ℕ) → IsAtMost (length s) 267 n → n ≤ i → text ≡ stored (take i s) zeros → StartsWith s text
+pub copied-end : (s zeros text : List ℕ) (n i : ℕ) → IsAtMost (length s) originBytes n → n ≤ i → text ≡ stored (take i s) zeros → StartsWith s text
 copied-end s zeros text n i h k e =
     record {
       rest = drop (length s) zeros;

@@ -11,6 +11,7 @@ use Rattle.ascii.proofs.Clash.{clash}
 use Rattle.ascii.specs.Bytes.{pick}
 use Rattle.limits.specs.Limits.{textBytes}
 use Rattle.settled.specs.Settled.{headBytes}
+use Rattle.document_records.specs.Records.{settledLimit}
 use Rattle.settling.specs.Promises.{IsSettled, answerOf, Answer}
 use Rattle.settling.specs.declared.Settled.{Settled}
 use Rattle.settling.specs.declared.Settled.the-variants as settled
@@ -27,11 +28,11 @@ unfolding pick
 settled-fits a b e f = rw (e, f)
 
 -- a header within the limit is neither too long nor short of room
-module _ (s after : List ℕ) (r : Settled) (h : IsSettled s (replicate 1109 0) after r) where
+module _ (s after : List ℕ) (r : Settled) (h : IsSettled s (replicate settledLimit 0) after r) where
   settles : length s ≤ textBytes → answerOf r ≡ Answer.header
   settles le =
-      let room : headBytes + length s ≤ 1109 = omega arith in
-      h .which ∙ settled-fits (ltb textBytes (length s)) (ltb 1109 (headBytes + length s)) (le-ltb textBytes (length s) le) (le-ltb 1109 (headBytes + length s) room)
+      let room : headBytes + length s ≤ settledLimit = omega arith in
+      h .which ∙ settled-fits (ltb textBytes (length s)) (ltb settledLimit (headBytes + length s)) (le-ltb textBytes (length s) le) (le-ltb settledLimit (headBytes + length s) room)
 
   other : (x : Answer) → answerOf r ≡ x → (x ≡ Answer.header → ⊥) → IsKept s (record { bytes = after; malformed = true })
   other x e never = record { says = λ le. absurd (never (sym e ∙ settles le)); malformed = λ le. absurd (never (sym e ∙ settles le)) }

@@ -12,7 +12,7 @@ use Rattle.origins.specs.declared.OriginText.{OriginText}
 use Rattle.origins.specs.declared.OriginRange.{OriginRange}
 use Rattle.containers.specs.Attributes.{Attributes}
 use Rattle.decisions.specs.Policies.{forecast}
-use Rattle.document_records.specs.Records.{documentIn, recordPolicy}
+use Rattle.document_records.specs.Records.{originBytes, documentIn, recordPolicy}
 use Rattle.document_records.specs.declared.Document.{Document}
 use Rattle.document_model.specs.Model.{Text, arrivesAt, frameOf, topDocument, topIdentity, framedDocument, framedIdentity}
 use Rattle.document_loads.specs.declared.FrameMarks.{FrameMarks}
@@ -34,11 +34,12 @@ pub record IsAtMost (n most r : ℕ) : Type 0 where
   pub within : r ≤ most
   pub below : r ≤ n
   pub whole : n ≤ most → r ≡ n
+  pub cut : most ≤ n → r ≡ most
 
 -- a text that is no longer than an origin text can be stands in front
 pub record StartsWith (s r : List ℕ) : Type 0 where
   pub rest : List ℕ
-  pub is : length s ≤ 267 → r ≡ s ++ rest
+  pub is : length s ≤ originBytes → r ≡ s ++ rest
 
 -- the origin at which a document with an origin text arrives in a container with another
 pub record Arrives (said : OriginText) (o text : List ℕ) (container : OriginRange) (n : ℕ) (r : Arrival) : Type 0 where

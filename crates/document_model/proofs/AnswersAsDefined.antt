@@ -8,7 +8,6 @@ use mathlib.Core.List.{List, [], _∷_}
 use lib.Dec.{ltb→lt}
 use lib.ListN.{getD}
 use Rattle.ascii.proofs.Clash.{clash}
-use Rattle.limits.specs.declared.Refusal.{Refusal}
 use Rattle.limits.specs.declared.Refusal.the-variants.{NoSuchFeature, BadOrigin, TooLong}
 use Rattle.features.specs.Features.{featureCount}
 use Rattle.origins.specs.Origins.{Origin, OriginSaid, originOf}
@@ -157,7 +156,7 @@ question-shown : (t : Table) (s f : ℕ) (o : Text) (d : Decision) → answerTo 
 unfolding answerTo outcome fittingOutcome
 question-shown t s f o =
     let P : Answer → Table → Type 0 = λ a u. (d : Decision) → a ≡ decision d → Shown t s f (originOf o) d in
-    let r : (n : Refusal) → (d : Decision) → refused n ≡ decision d → Shown t s f (originOf o) d = λ n d e. clash cc in
+    let r : (n : ℕ) → (d : Decision) → refused n ≡ decision d → Shown t s f (originOf o) d = λ n d e. clash cc in
     ends P t (outcome (question s f o) t) (unless-ends P t TooLong _ _ r λ _. unless-ends P t BadOrigin _ _ r λ g. unless-ends P t NoSuchFeature _ _ r λ l.
     with-ends P t s (t .docs) (find s (t .docs)) (finds s (t .docs)) _ r λ x m e. λ d q. record { doc = x; is-in = m; is = e; good = g; feature = ltb→lt f featureCount (rw l tt); answer = cc })
 
@@ -171,14 +170,14 @@ enabled-shown : (t : Table) (s m : ℕ) → answerTo (enabledFeatures s) t ≡ f
 unfolding answerTo outcome fittingOutcome
 enabled-shown t s =
     let P : Answer → Table → Type 0 = λ a u. (m : ℕ) → a ≡ features m → Numbered t s m (λ x. enabledMask (policyOf x)) in
-    let r : (n : Refusal) → (m : ℕ) → refused n ≡ features m → Numbered t s m (λ x. enabledMask (policyOf x)) = λ n m e. clash cc in
+    let r : (n : ℕ) → (m : ℕ) → refused n ≡ features m → Numbered t s m (λ x. enabledMask (policyOf x)) = λ n m e. clash cc in
     ends P t (outcome (enabledFeatures s) t) (unless-ends P t TooLong _ _ r λ _. with-ends P t s (t .docs) (find s (t .docs)) (finds s (t .docs)) _ r λ x i e. λ m q. record { doc = x; is-in = i; is = e; answer = cc })
 
 forecast-shown : (t : Table) (c : ℕ) (a : Attributes) (m : ℕ) → answerTo (forecastOf c a) t ≡ features m → Numbered t c m (λ x. forecast (policyOf x) (frameOf (x .identity) a))
 unfolding answerTo outcome fittingOutcome
 forecast-shown t c a =
     let P : Answer → Table → Type 0 = λ b u. (m : ℕ) → b ≡ features m → Numbered t c m (λ x. forecast (policyOf x) (frameOf (x .identity) a)) in
-    let r : (n : Refusal) → (m : ℕ) → refused n ≡ features m → Numbered t c m (λ x. forecast (policyOf x) (frameOf (x .identity) a)) = λ n m e. clash cc in
+    let r : (n : ℕ) → (m : ℕ) → refused n ≡ features m → Numbered t c m (λ x. forecast (policyOf x) (frameOf (x .identity) a)) = λ n m e. clash cc in
     ends P t (outcome (forecastOf c a) t) (unless-ends P t TooLong _ _ r λ _. unless-ends P t BadOrigin _ _ r λ _.
     with-ends P t c (t .docs) (find c (t .docs)) (finds c (t .docs)) _ r λ x i e. λ m q. record { doc = x; is-in = i; is = e; answer = cc })
 

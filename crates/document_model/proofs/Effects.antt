@@ -9,6 +9,7 @@ use lib.Dec.{ltb→lt, leb→le}
 use lib.ListN.{length, length-append}
 use Rattle.ascii.proofs.Clash.{clash}
 use Rattle.limits.specs.Limits.{documentLimit, lastSerial}
+use Rattle.limits.specs.Refusals.{refusalNumber}
 use Rattle.limits.specs.declared.Refusal.{Refusal}
 use Rattle.limits.specs.declared.Refusal.the-variants.{NotLoaded, NoSuchFeature, BadOrigin, TooLong, Sandbox, Full, Spent, Small}
 use Rattle.origins.specs.Origins.{OriginSaid, originOf}
@@ -40,17 +41,17 @@ answers-after cs ds = answers-append answerTo tableLeft cs ds newTable
 
 -- what holds of a call's answer and of the table that it leaves
 abbrev pub Ends : (Answer → Table → Type 0) → Table → Outcome → Type 0
-Ends P t (refuse n) = P (refused n) t
+Ends P t (refuse n) = P (refused (refusalNumber n)) t
 Ends P t (accept a u) = P a u
 
-pub unless-ends : (P : Answer → Table → Type 0) (t : Table) (n : Refusal) (b : Bool) (k : Outcome) → ((m : Refusal) → P (refused m) t) → (b ≡ true → Ends P t k) → Ends P t (refuseUnless n b k)
+pub unless-ends : (P : Answer → Table → Type 0) (t : Table) (n : Refusal) (b : Bool) (k : Outcome) → ((m : ℕ) → P (refused m) t) → (b ≡ true → Ends P t k) → Ends P t (refuseUnless n b k)
 unfolding refuseUnless
 unless-ends P t n true k r h = h refl
-unless-ends P t n false k r h = r n
+unless-ends P t n false k r h = r (refusalNumber n)
 
-pub with-ends : (P : Answer → Table → Type 0) (t : Table) (s : ℕ) (ds : List Document) (o : Option Document) → Finds s ds o → (k : Document → Outcome) → ((m : Refusal) → P (refused m) t) → ((d : Document) → In d ds → s ≡ d .identity .serial → Ends P t (k d)) → Ends P t (withDocument o k)
+pub with-ends : (P : Answer → Table → Type 0) (t : Table) (s : ℕ) (ds : List Document) (o : Option Document) → Finds s ds o → (k : Document → Outcome) → ((m : ℕ) → P (refused m) t) → ((d : Document) → In d ds → s ≡ d .identity .serial → Ends P t (k d)) → Ends P t (withDocument o k)
 unfolding withDocument
-with-ends P t s ds o (missing none-there) k r h = r NotLoaded
+with-ends P t s ds o (missing none-there) k r h = r (refusalNumber NotLoaded)
 with-ends P t s ds o (hit d m e) k r h = h d m e
 
 pub ends : (P : Answer → Table → Type 0) (t : Table) (o : Outcome) → Ends P t o → P (answerIn o) (tableIn o t)
@@ -68,7 +69,7 @@ pub data Effect (t : Table) : Call → Answer → Table → Type 0 where
       Effect t (framedLoad c h o a) (loaded (t .next) m) (pushed t (framedDocument d h a (framedIdentity (d .identity) a (originOf o) (t .next))))
   all-removed : (s : ℕ) → Effect t (unload s) (removed (removedCount s (t .docs))) (record { docs = remaining s (t .docs); next = t .next })
 
-stopped : (t : Table) (c : Call) (n : Refusal) → Effect t c (refused n) t
+stopped : (t : Table) (c : Call) (n : ℕ) → Effect t c (refused n) t
 stopped t c n = nothing-else {c = c} {a = refused n} (λ s g. elim g [ ]) (λ s u. elim u [ ]) refl refl
 
 load-effect : (c : Call) (t : Table) (b : Bool) (make : Identity → Document) (identity : ℕ → Identity) → (length (t .docs) < documentLimit → t .next ≤ lastSerial → Effect t c (loaded (t .next) b) (pushed t (make (identity (t .next))))) → Ends (Effect t c) t (load t b make identity)
@@ -112,13 +113,13 @@ unfolding answerTo tableLeft
 effect c t = ends (Effect t c) t (outcome c t) (outcome-effect c t)
 
 -- a call that is refused leaves the table as it was
-same-table : (t u : Table) (c : Call) (a : Answer) (n : Refusal) → a ≡ refused n → Effect t c a u → u ≡ t
+same-table : (t u : Table) (c : Call) (a : Answer) (n : ℕ) → a ≡ refused n → Effect t c a u → u ≡ t
 same-table t u c a n e (nothing-else g v l r) = refl
 same-table t u c a n e (top-loaded h o m p q) = clash cc
 same-table t u c a n e (frame-loaded k h o b m d i q p z) = clash cc
 same-table t u c a n e (all-removed s) = clash cc
 
-pub refused-keeps : (c : Call) (t : Table) (n : Refusal) → answerTo c t ≡ refused n → tableLeft c t ≡ t
+pub refused-keeps : (c : Call) (t : Table) (n : ℕ) → answerTo c t ≡ refused n → tableLeft c t ≡ t
 refused-keeps c t n e = same-table t (tableLeft c t) c (answerTo c t) n e (effect c t)
 
 -- and so does a question of any kind

@@ -8,6 +8,7 @@ use mathlib.Core.List.{List, [], _∷_, _++_}
 use lib.Dec.{ltb, lt→ltb}
 use lib.ListN.{getD}
 use Rattle.ascii.proofs.Clash.{clash}
+use Rattle.limits.specs.Refusals.{refusalNumber}
 use Rattle.limits.specs.declared.Refusal.{Refusal}
 use Rattle.limits.specs.declared.Refusal.the-variants.{BadOrigin, TooLong, Sandbox, Full, Spent}
 use Rattle.features.specs.Features.{featureCount}
@@ -38,7 +39,7 @@ use Rattle.document_model.proofs.Invariant.{Invariant, reachable, call-
 -- `AtDeclared` on a table
 pub data DeclaredText (t : Table) (c : ℕ) (a : Attributes) : Text → Type 0 where
   src-text : DeclaredText t c a (a .src)
-  null-text : answerTo (framedLoad c [] (a .src) a) t ≡ refused Sandbox → DeclaredText t c a nullText
+  null-text : answerTo (framedLoad c [] (a .src) a) t ≡ refused 5 → DeclaredText t c a nullText
 
 declared-text : {cs : List Call} {c : ℕ} {a : Attributes} {o : Text} → AtDeclared theModel cs c a o → DeclaredText (tableAfter cs) c a o
 declared-text as-src = src-text
@@ -79,12 +80,12 @@ with-passed none k e = clash cc
 with-passed (some d) k e = (d, refl, refl)
 
 -- a refusal that is another one comes later
-unless-other : (n m : Refusal) (b : Bool) (k : Outcome) → (n ≡ m → ⊥) → answerIn (refuseUnless n b k) ≡ refused m → answerIn k ≡ refused m
+unless-other : (n : Refusal) (m : ℕ) (b : Bool) (k : Outcome) → (refusalNumber n ≡ m → ⊥) → answerIn (refuseUnless n b k) ≡ refused m → answerIn k ≡ refused m
 unfolding refuseUnless
 unless-other n m true k h e = e
 unless-other n m false k h e = absurd (h (cc))
 
-unless-this : (n : Refusal) (b : Bool) (k : Outcome) → (answerIn k ≡ refused n → ⊥) → answerIn (refuseUnless n b k) ≡ refused n → b ≡ false
+unless-this : (n : Refusal) (b : Bool) (k : Outcome) → (answerIn k ≡ refused (refusalNumber n) → ⊥) → answerIn (refuseUnless n b k) ≡ refused (refusalNumber n) → b ≡ false
 unfolding refuseUnless
 unless-this n true k h e = absurd (h e)
 unless-this n false k h e = refl
@@ -137,16 +138,16 @@ accepted-forecast t c a e =
     record { doc = w .0; is = w .1; steps = p1 .1 ∙ p2 .1 ∙ w .2 }
 
 -- past the row of 5 a load isn't refused with 5
-load-free : (t : Table) (b : Bool) (make : Identity → Document) (identity : ℕ → Identity) → answerIn (load t b make identity) ≡ refused Sandbox → ⊥
+load-free : (t : Table) (b : Bool) (make : Identity → Document) (identity : ℕ → Identity) → answerIn (load t b make identity) ≡ refused 5 → ⊥
 unfolding load
 load-free t b make identity e =
-    let q = unless-other Spent Sandbox _ _ (λ z. clash cc) (unless-other Full Sandbox _ _ (λ z. clash cc) e) in
+    let q = unless-other Spent 5 _ _ (λ z. absurd (omega arith)) (unless-other Full 5 _ _ (λ z. absurd (omega arith)) e) in
     clash cc
 
-refused-sandboxed : (t : Table) (c : ℕ) (h o : Text) (a : Attributes) (d : Document) → find c (t .docs) ≡ some d → answerTo (framedLoad c h o a) t ≡ refused Sandbox → frameSandboxed (d .identity) a ≡ true
+refused-sandboxed : (t : Table) (c : ℕ) (h o : Text) (a : Attributes) (d : Document) → find c (t .docs) ≡ some d → answerTo (framedLoad c h o a) t ≡ refused 5 → frameSandboxed (d .identity) a ≡ true
 unfolding answerTo outcome fittingOutcome withDocument
 refused-sandboxed t c h o a d p e =
-    let q = unless-other BadOrigin Sandbox _ _ (λ z. clash cc) (unless-other BadOrigin Sandbox _ _ (λ z. clash cc) (unless-other TooLong Sandbox _ _ (λ z. clash cc) e)) in
+    let q = unless-other BadOrigin 5 _ _ (λ z. absurd (omega arith)) (unless-other BadOrigin 5 _ _ (λ z. absurd (omega arith)) (unless-other TooLong 5 _ _ (λ z. absurd (omega arith)) e)) in
     not-either (frameSandboxed (d .identity) a) (isNull (originOf o)) (unless-this Sandbox _ _ (load-free t _ _ _) (rw p at q)) .0
 
 -- the number that a document inherits in a frame whose declared origin it arrives at is the forecast

@@ -4,8 +4,8 @@
 pub use Rattle.document_model.proofs.TwoRuns.{Follow, two-runs, two-tables, left-append, answers-append}
 -- what each call does; that a refused one, and a question of any kind, leaves the table as it was; that further calls go on from the table that the calls before them left; an induction over the history of calls; after any calls each document is what its load call, found among the calls, makes of its container
 pub use Rattle.document_model.proofs.Effects.{Effect, nothing-else, top-loaded, frame-loaded, all-removed, effect, refused-keeps, asked-keeps, table-append, table-one, table-none, answers-after, history-induction, Made, made-top, made-framed, made}
--- told its answers alone, the model is the model
-pub use Rattle.document_model.proofs.Answering.{by-answers}
+-- the answer at a call's place, and the history, read from the answers; told these alone, the model is the model
+pub use Rattle.document_model.proofs.Answering.{answer-at, history-is, by-answers}
 -- what holds of every table that calls leave
 pub use Rattle.document_model.proofs.Invariant.{Invariant, reachable}
 -- the documents of the table are the loaded ones, and the serials above each are those that it is beneath

@@ -9,6 +9,7 @@ use lib.ListN.{length, getD}
 use Rattle.ascii.proofs.Clash.{clash}
 use Rattle.ascii.specs.Bytes.{pick}
 use Rattle.limits.specs.Limits.{documentLimit, lastSerial}
+use Rattle.limits.specs.Refusals.{refusalNumber}
 use Rattle.limits.specs.declared.Refusal.{Refusal}
 use Rattle.limits.specs.declared.Refusal.the-variants.{NotLoaded, NoSuchFeature, BadOrigin, TooLong, Sandbox, Full, Spent, Small}
 use Rattle.features.specs.Features.{featureCount}
@@ -256,7 +257,7 @@ unfolding outcome
 outcome-more l r = rw (l .same-fit) (unless-more TooLong _ (fitting-more (l .shape) r))
 
 answer-more : {x y : Outcome} → OutcomeMore x y → Keeps (answerIn x) (answerIn y)
-answer-more (alike n) = equal (refused n)
+answer-more (alike n) = equal (refused (refusalNumber n))
 answer-more (more a t) = a
 
 left-more : {x y : Outcome} {t u : Table} → OutcomeMore x y → TableMore t u → TableMore (tableIn x t) (tableIn y u)

@@ -6,7 +6,6 @@ use native.Mathlib.Omega.{arith}
 use mathlib.Core.Bool.{Bool, true, false}
 use mathlib.Core.List.{List, [], _∷_, _++_}
 use Rattle.ascii.specs.Literals.{text}
-use Rattle.limits.specs.declared.Refusal.the-variants.{NotLoaded, Sandbox}
 use Rattle.origins.specs.Origins.{originOf, nullText}
 use Rattle.containers.specs.Attributes.{Attributes}
 use Rattle.containers.specs.Widening.WordMore.{word-more}
@@ -30,7 +29,7 @@ loadEvents =
     ∷ []
 
 abbrev events : List Event
-events = record { call = question 5 camera []; answer = refused NotLoaded } ∷ record { call = unload 5; answer = removed 1 } ∷ loadEvents
+events = record { call = question 5 camera []; answer = refused 1 } ∷ record { call = unload 5; answer = removed 1 } ∷ loadEvents
 
 happened : history (loads ++ between) ≡ events
 unfolding computing
@@ -136,7 +135,7 @@ sandboxed-said : answerAfter (top [] ∷ []) (forecastOf 1 (sandboxing "camera *
 unfolding computing
 sandboxed-said = refl
 
-src-refused : answerAfter (top [] ∷ []) (framedLoad 1 [] (text "https://b.example") (sandboxing "camera *")) ≡ refused Sandbox
+src-refused : answerAfter (top [] ∷ []) (framedLoad 1 [] (text "https://b.example") (sandboxing "camera *")) ≡ refused 5
 unfolding computing
 src-refused = refl
 

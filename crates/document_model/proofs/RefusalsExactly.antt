@@ -11,13 +11,15 @@ use borrow.Author.Tests.{ltb-true, ltb-false, leb-true, leb-false}
 use Rattle.ascii.proofs.Clash.{clash}
 use Rattle.ascii.proofs.Bytes.{and-left, and-right}
 use Rattle.limits.specs.Limits.{textBytes, documentLimit, lastSerial}
+use Rattle.limits.specs.Refusals.{refusalNumber}
 use Rattle.limits.specs.declared.Refusal.{Refusal}
+use Rattle.limits.specs.declared.Refusal.the-variants.{NotLoaded, NoSuchFeature, BadOrigin, TooLong, Sandbox, Full, Spent, Small}
 use Rattle.features.specs.Features.{featureCount}
 use Rattle.origins.specs.Origins.{OriginSaid, originOf}
 use Rattle.origins.specs.Origins.OriginSaid.{saysEmpty, saysNull, saysTuple, noOrigin}
 use Rattle.containers.specs.Attributes.{Attributes}
 use Rattle.document_model.specs.Runs.{leftBy, answersBy}
-use Rattle.document_model.specs.Model.{Text, isGoodOrigin, isNull, isGoodAtTop, Identity, Document, frameSandboxed, Table, find, serialsBeneath, Call, topLoad, framedLoad, unload, question, enabledFeatures, listing, forecastOf, Answer, refused, runAfter, Outcome, refuse, accept, refuseUnless, withDocument, isShort, textsFit, load, fittingOutcome, outcome, answerIn, answerTo, tableLeft, tableAfter, answersAfter}
+use Rattle.document_model.specs.Model.{Text, isGoodOrigin, isNull, isGoodAtTop, Identity, Document, frameSandboxed, Table, find, serialsBeneath, Call, topLoad, framedLoad, unload, question, enabledFeatures, listing, forecastOf, Answer, refused, Outcome, refuse, accept, refuseUnless, withDocument, isShort, textsFit, load, fittingOutcome, outcome, answerIn, answerTo, tableLeft, tableAfter, answersAfter}
 use Rattle.document_model.specs.History.{Event, LoadedIn, BeneathIn, history}
 use Rattle.document_model.specs.Claims.{isAccepted}
 use Rattle.document_model.specs.Refusals.{Row, inputLong, badOrigin, badSrc, noFeature, notLoaded, sandboxed, full, spent, notDictionary, outputLong, small, place, refusalOf, Input, top-header, framed-header, framed-allow, framed-sandbox, forecast-allow, forecast-sandbox, Names, framed-names, unload-names, question-names, enabled-names, listing-names, forecast-names, IsLoad, is-top, is-framed, Holds, long, top-bad, top-empty, framed-bad, question-bad, framed-src, forecast-src, over-sixteen, closed, in-container, in-attribute, sixteen, all-given, short-run, First}
@@ -63,27 +65,27 @@ place-one q r e = sym (row-back q) ∙ ap rowAt e ∙ row-back r
 -- what the rows from a place on say of an outcome
 data Verdict (es : List Event) (c : Call) (lo : ℕ) : Outcome → Type 0 where
   passed : {a : Answer} {u : Table} → isAccepted a ≡ true → ((q : Row) → lo ≤ place q → Holds es c q → ⊥) → Verdict es c lo (accept a u)
-  stopped : (r : Row) → lo ≤ place r → Holds es c r → ((q : Row) → lo ≤ place q → place q < place r → Holds es c q → ⊥) → Verdict es c lo (refuse (refusalOf r))
+  stopped : (r : Row) (n : Refusal) → refusalNumber n ≡ refusalOf r → lo ≤ place r → Holds es c r → ((q : Row) → lo ≤ place q → place q < place r → Holds es c q → ⊥) → Verdict es c lo (refuse n)
 
 extend : {es : List Event} {c : Call} {o : Outcome} (lo hi : ℕ) → lo ≤ hi → ((q : Row) → lo ≤ place q → place q < hi → Holds es c q → ⊥) → Verdict es c hi o → Verdict es c lo o
 extend lo hi l n (passed e m) = passed e (λ q k h. order (place q) hi (λ s. n q k s h) (λ s. m q s h))
-extend lo hi l n (stopped r k h m) = stopped r (omega arith) h (λ q j b g. order (place q) hi (λ s. n q j s g) (λ s. m q s b g))
+extend lo hi l n (stopped r x y k h m) = stopped r x y (omega arith) h (λ q j b g. order (place q) hi (λ s. n q j s g) (λ s. m q s b g))
 
-unless-verdict : {es : List Event} {c : Call} (r : Row) (b : Bool) (k : Outcome) → (b ≡ false → Holds es c r) → (b ≡ true → Holds es c r → ⊥) → Verdict es c (suc (place r)) k → Verdict es c (place r) (refuseUnless (refusalOf r) b k)
+unless-verdict : {es : List Event} {c : Call} (r : Row) (n : Refusal) → refusalNumber n ≡ refusalOf r → (b : Bool) (k : Outcome) → (b ≡ false → Holds es c r) → (b ≡ true → Holds es c r → ⊥) → Verdict es c (suc (place r)) k → Verdict es c (place r) (refuseUnless n b k)
 unfolding refuseUnless
-unless-verdict {es} {c} r true k f g v = extend (place r) (suc (place r)) (omega arith) (λ q l s h. g refl (subst (Holds es c) (place-one q r (omega arith)) h)) v
-unless-verdict r false k f g v = stopped r (omega arith) (f refl) (λ q l s h. absurd (omega arith))
+unless-verdict {es} {c} r n y true k f g v = extend (place r) (suc (place r)) (omega arith) (λ q l s h. g refl (subst (Holds es c) (place-one q r (omega arith)) h)) v
+unless-verdict r n y false k f g v = stopped r n y (omega arith) (f refl) (λ q l s h. absurd (omega arith))
 
 -- from a verdict on all rows
-answer-first : {es : List Event} {c : Call} (o : Outcome) → Verdict es c 0 o → (n : Refusal) → answerIn o ≡ refused n → (r : Row) × First es c r × (refusalOf r ≡ n)
+answer-first : {es : List Event} {c : Call} (o : Outcome) → Verdict es c 0 o → (n : ℕ) → answerIn o ≡ refused n → (r : Row) × First es c r × (refusalOf r ≡ n)
 answer-first o (passed e m) n q = clash cc
-answer-first o (stopped r l h m) n q = (r, record { holds = h; none-before = λ p s g. m p (omega arith) s g }, cc)
+answer-first o (stopped r x y l h m) n q = (r, record { holds = h; none-before = λ p s g. m p (omega arith) s g }, cc)
 
 first-answer : {es : List Event} {c : Call} (o : Outcome) → Verdict es c 0 o → (r : Row) → First es c r → answerIn o ≡ refused (refusalOf r)
 first-answer o (passed e m) r f = absurd (m r (omega arith) (f .holds))
-first-answer o (stopped q l h m) r f =
+first-answer o (stopped q x y l h m) r f =
     let e : place q ≡ place r = order (place q) (place r) (λ s. absurd (f .none-before q s h)) (λ s. order (place r) (place q) (λ b. absurd (m r (omega arith) b (f .holds))) (λ b. omega arith)) in
-    ap (λ (p : Row). refused (refusalOf p)) (place-one q r e)
+    ap refused (y ∙ ap refusalOf (place-one q r e))
 
 -- ---- the rows of each call
 
@@ -142,10 +144,10 @@ module _ (cs : List Call) where
   load-verdict : (c : Call) → IsLoad c → ((q : Row) → 8 ≤ place q → Holds es c q → ⊥) → (b : Bool) (make : Identity → Document) (identity : ℕ → Identity) → Verdict es c 6 (load t b make identity)
   unfolding load
   load-verdict c is no-later b make identity =
-      unless-verdict full (ltb (length (t .docs)) documentLimit) _
+      unless-verdict full Full refl (ltb (length (t .docs)) documentLimit) _
       (λ e. sixteen (serialsWhere (λ w. true) (t .docs)) is (loaded-list cs) (omega (arith, ltb-false, room, reachable cs .few)))
       not-full
-      (unless-verdict spent (leb (t .next) lastSerial) _
+      (unless-verdict spent Spent refl (leb (t .next) lastSerial) _
       (λ e. let w = given-before cs lastSerial (omega arith) (omega (arith, leb-false)) in all-given is (w .happened) (w .gave))
       not-spent
       (passed refl no-later))
@@ -162,7 +164,7 @@ module _ (cs : List Call) where
   with-verdict : (c : Call) (s : ℕ) → Names c s → ((k : ℕ) → Names c k → k ≡ s) → (k : Document → Outcome) → ((d : Document) → In d (t .docs) → s ≡ d .identity .serial → Verdict es c 5 (k d)) → (o : Option Document) → Finds s (t .docs) o → Verdict es c 4 (withDocument o k)
   unfolding withDocument
   with-verdict c s n only k v o (missing none-there) =
-      stopped notLoaded (omega arith) (closed s n (λ l. let w = agrees cs .is-there s l in none-there (w .0) (w .1) (sym (w .2)))) (λ q l m h. absurd (omega arith))
+      stopped notLoaded NotLoaded refl (omega arith) (closed s n (λ l. let w = agrees cs .is-there s l in none-there (w .0) (w .1) (sym (w .2)))) (λ q l m h. absurd (omega arith))
   with-verdict c s n only k v o (hit d m e) = extend 4 5 (omega arith) (λ q l b h. not-shut q (place-one q notLoaded (omega arith)) h) (v d m e)
     where
       not-shut : (q : Row) → q ≡ notLoaded → Holds (history cs) c q → ⊥
@@ -174,9 +176,9 @@ module _ (cs : List Call) where
   -- ---- every call
 
   sandbox-verdict : (c : ℕ) (h o : Text) (a : Attributes) (d : Document) → In d (t .docs) → c ≡ d .identity .serial → (k : Outcome) → Verdict es (framedLoad c h o a) 6 k →
-      Verdict es (framedLoad c h o a) 5 (refuseUnless (refusalOf sandboxed) (not (frameSandboxed (d .identity) a) || isNull (originOf o)) k)
+      Verdict es (framedLoad c h o a) 5 (refuseUnless Sandbox (not (frameSandboxed (d .identity) a) || isNull (originOf o)) k)
   sandbox-verdict c h o a d m e k v =
-      unless-verdict sandboxed (not (frameSandboxed (d .identity) a) || isNull (originOf o)) k
+      unless-verdict sandboxed Sandbox refl (not (frameSandboxed (d .identity) a) || isNull (originOf o)) k
       (λ z. let w = not-either (frameSandboxed (d .identity) a) (isNull (originOf o)) z in
       sandboxed-either (d .identity) a (w .0)
       (λ y. in-container (rw e (marked-told cs d m y)) (not-null (originOf o) (w .1)))
@@ -192,7 +194,7 @@ module _ (cs : List Call) where
   fitting-verdict : (c : Call) → Verdict es c 1 (fittingOutcome c t)
   unfolding fittingOutcome
   fitting-verdict (topLoad h o) =
-      unless-verdict badOrigin (isGoodAtTop (originOf o)) _ (top-of es h o (originOf o) refl) (top-not es h o)
+      unless-verdict badOrigin BadOrigin refl (isGoodAtTop (originOf o)) _ (top-of es h o (originOf o) refl) (top-not es h o)
       (extend 2 6 (omega arith) gap (load-verdict (topLoad h o) is-top end _ _ _))
     where
       gap : (q : Row) → 2 ≤ place q → place q < 6 → Holds (history cs) (topLoad h o) q → ⊥
@@ -211,8 +213,8 @@ module _ (cs : List Call) where
       end q l (sixteen k i a z) = omega arith
       end q l (all-given i z g) = omega arith
   fitting-verdict (framedLoad c h o a) =
-      unless-verdict badOrigin (isGoodOrigin (originOf o)) _ (λ z. framed-bad (not-good (originOf o) z)) good
-      (unless-verdict badSrc (isGoodOrigin (originOf (a .src))) _ (λ z. framed-src (not-good (originOf (a .src)) z)) src
+      unless-verdict badOrigin BadOrigin refl (isGoodOrigin (originOf o)) _ (λ z. framed-bad (not-good (originOf o) z)) good
+      (unless-verdict badSrc BadOrigin refl (isGoodOrigin (originOf (a .src))) _ (λ z. framed-src (not-good (originOf (a .src)) z)) src
       (extend 3 4 (omega arith) gap
       (with-verdict (framedLoad c h o a) c framed-names only _ (λ d m e. sandbox-verdict c h o a d m e _ (load-verdict (framedLoad c h o a) is-framed end _ _ _)) (find c (t .docs)) (finds c (t .docs)))))
     where
@@ -262,9 +264,9 @@ module _ (cs : List Call) where
       end q l (sixteen k i y z) = elim i [ ]
       end q l (all-given i z g) = elim i [ ]
   fitting-verdict (question s f o) =
-      unless-verdict badOrigin (isGoodOrigin (originOf o)) _ (λ z. question-bad (not-good (originOf o) z)) good
+      unless-verdict badOrigin BadOrigin refl (isGoodOrigin (originOf o)) _ (λ z. question-bad (not-good (originOf o) z)) good
       (extend 2 3 (omega arith) gap
-      (unless-verdict noFeature (ltb f featureCount) _ (λ z. over-sixteen (omega (arith, ltb-false))) known
+      (unless-verdict noFeature NoSuchFeature refl (ltb f featureCount) _ (λ z. over-sixteen (omega (arith, ltb-false))) known
       (with-verdict (question s f o) s question-names only _ (λ d m e. passed refl end) (find s (t .docs)) (finds s (t .docs)))))
     where
       good : isGoodOrigin (originOf o) ≡ true → Holds (history cs) (question s f o) badOrigin → ⊥
@@ -311,7 +313,7 @@ module _ (cs : List Call) where
   fitting-verdict (listing s run) =
       extend 1 4 (omega arith) gap
       (with-verdict (listing s run) s listing-names only _
-      (λ d m e. extend 5 10 (omega arith) gap′ (unless-verdict small (leb (length (serialsBeneath s (t .docs))) (length run)) _ (λ z. short-run (serialsBeneath s (t .docs)) (beneath-list cs s) (omega (arith, leb-false))) enough (passed refl end)))
+      (λ d m e. extend 5 10 (omega arith) gap′ (unless-verdict small Small refl (leb (length (serialsBeneath s (t .docs))) (length run)) _ (λ z. short-run (serialsBeneath s (t .docs)) (beneath-list cs s) (omega (arith, leb-false))) enough (passed refl end)))
       (find s (t .docs)) (finds s (t .docs)))
     where
       only : (k : ℕ) → Names (listing s run) k → k ≡ s
@@ -344,7 +346,7 @@ module _ (cs : List Call) where
       end q l (short-run k i z) = omega arith
   fitting-verdict (forecastOf c a) =
       extend 1 2 (omega arith) gap
-      (unless-verdict badSrc (isGoodOrigin (originOf (a .src))) _ (λ z. forecast-src (not-good (originOf (a .src)) z)) src
+      (unless-verdict badSrc BadOrigin refl (isGoodOrigin (originOf (a .src))) _ (λ z. forecast-src (not-good (originOf (a .src)) z)) src
       (extend 3 4 (omega arith) gap′
       (with-verdict (forecastOf c a) c forecast-names only _ (λ d m e. passed refl end) (find c (t .docs)) (finds c (t .docs)))))
     where
@@ -377,9 +379,9 @@ module _ (cs : List Call) where
 
   verdict : (c : Call) → Verdict es c 0 (outcome c t)
   unfolding outcome
-  verdict c = unless-verdict inputLong (textsFit c) (fittingOutcome c t) (is-long es c) (not-long es c) (fitting-verdict c)
+  verdict c = unless-verdict inputLong TooLong refl (textsFit c) (fittingOutcome c t) (is-long es c) (not-long es c) (fitting-verdict c)
 
-pub refused-by-first : (cs : List Call) (c : Call) (n : Refusal) → answerTo c (tableAfter cs) ≡ refused n → (r : Row) × First (history cs) c r × (refusalOf r ≡ n)
+pub refused-by-first : (cs : List Call) (c : Call) (n : ℕ) → answerTo c (tableAfter cs) ≡ refused n → (r : Row) × First (history cs) c r × (refusalOf r ≡ n)
 unfolding answerTo
 refused-by-first cs c n e = answer-first (outcome c (tableAfter cs)) (verdict cs c) n e
 
@@ -388,9 +390,6 @@ unfolding answerTo
 first-is-refused cs c r f = first-answer (outcome c (tableAfter cs)) (verdict cs c) r f
 
 -- the table after a refusal is the one before, so later answers are as if the call hadn't been made
-pub refused-changes-nothing : (cs : List Call) (c : Call) (n : Refusal) (ds : List Call) → answerTo c (tableAfter cs) ≡ refused n → answersAfter (cs ++ (c ∷ [])) ds ≡ answersAfter cs ds
+pub refused-changes-nothing : (cs : List Call) (c : Call) (n : ℕ) (ds : List Call) → answerTo c (tableAfter cs) ≡ refused n → answersAfter (cs ++ (c ∷ [])) ds ≡ answersAfter cs ds
 unfolding leftBy
 refused-changes-nothing cs c n ds e = ap (answersBy answerTo tableLeft ds) (table-append cs (c ∷ []) ∙ refused-keeps c (tableAfter cs) n e)
-
-pub refused-keeps-run : (cs : List Call) (s : ℕ) (run : List ℕ) (n : Refusal) → answerTo (listing s run) (tableAfter cs) ≡ refused n → runAfter (answerTo (listing s run) (tableAfter cs)) run ≡ run
-refused-keeps-run cs s run n e = ap (λ (a : Answer). runAfter a run) e

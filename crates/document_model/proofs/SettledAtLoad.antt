@@ -33,7 +33,7 @@ record Right (c : Call) (a : Answer) : Type 0 where
   fits : AnswerFits c a
   says : Says c a
 
-refused-says : (c : Call) (n : Refusal) → Says c (refused n)
+refused-says : (c : Call) (n : ℕ) → Says c (refused n)
 refused-says (topLoad h o) n = λ s m e. clash cc
 refused-says (framedLoad c h o b) n = λ s m e. clash cc
 refused-says (unload s) n = tt
@@ -42,7 +42,7 @@ refused-says (enabledFeatures s) n = tt
 refused-says (listing s run) n = tt
 refused-says (forecastOf c b) n = tt
 
-refused-right : (c : Call) (n : Refusal) → Right c (refused n)
+refused-right : (c : Call) (n : ℕ) → Right c (refused n)
 refused-right c n = record { fits = refused-fits; says = refused-says c n }
 
 load-right : (c : Call) (t : Table) (b : Bool) (make : Identity → Document) (identity : ℕ → Identity) → ((s : ℕ) → Right c (loaded s b)) → Ends (λ a u. Right c a) t (load t b make identity)

@@ -5,8 +5,6 @@ use mathlib.Core.Bool.{Bool, true, false}
 use mathlib.Core.List.{List, [], _∷_, _++_}
 use lib.ListN.{length, drop}
 use Rattle.limits.specs.Limits.{documentLimit}
-use Rattle.limits.specs.declared.Refusal.{Refusal}
-use Rattle.limits.specs.declared.Refusal.the-variants.{Sandbox}
 use Rattle.features.specs.Features.{featureCount}
 use Rattle.origins.specs.Origins.{TupleOrigin, Origin, OriginSaid, originOf, nullText}
 use Rattle.origins.specs.Origins.Origin.{tuple, opaque, fresh}
@@ -23,7 +21,7 @@ use Rattle.decisions.specs.Masks.{decisionAt}
 use Rattle.decisions.specs.Policies.{Policy, Frame, questionIn, inheritedIn, enabledMask, forecast}
 use Rattle.decisions.specs.Widening.{Stays}
 use Rattle.document_model.specs.Runs.{Each}
-use Rattle.document_model.specs.Model.{Text, isGoodOrigin, arrivesAt, orFresh, valuesFrom, Call, topLoad, framedLoad, unload, question, enabledFeatures, listing, forecastOf, Answer, refused, loaded, removed, decision, features, serials, runAfter}
+use Rattle.document_model.specs.Model.{Text, isGoodOrigin, arrivesAt, orFresh, valuesFrom, Call, topLoad, framedLoad, unload, question, enabledFeatures, listing, forecastOf, Answer, refused, loaded, removed, decision, features, serials}
 use Rattle.document_model.specs.History.{Event, Happened, BeneathIn, LoadedIn, SandboxedIn, acceptedLoads, unloadSum, given, Exactly, AreLoaded, AreBeneath}
 use Rattle.document_model.specs.Answering.{Answering}
 use Rattle.document_model.specs.Refusals.{Row, refusalOf, First}
@@ -99,7 +97,7 @@ pub record SerialsAndCounts (who : Answering) : Type 0 where
 -- Two that arrive there as well aren't spoken of: for an empty src the container's own origin in full, and the empty text for a src that is the container's own origin in full
 pub data AtDeclared (who : Answering) (cs : List Call) (c : ℕ) (a : Attributes) : Text → Type 0 where
   as-src : AtDeclared who cs c a (a .src)
-  as-null : who .answerAfter cs (framedLoad c [] (a .src) a) ≡ refused Sandbox → AtDeclared who cs c a nullText
+  as-null : who .answerAfter cs (framedLoad c [] (a .src) a) ≡ refused 5 → AtDeclared who cs c a nullText
 
 pub record ForecastComesTrue (who : Answering) : Type 0 where
   -- "A *forecast* is what a frame would inherit at its declared origin": a load right after it with the same container and attributes, at the declared origin and with an empty header,
@@ -119,7 +117,7 @@ pub record ForecastComesTrue (who : Answering) : Type 0 where
 
 -- a refusal, or an answer of the call's own kind
 pub data AnswerFits : Call → Answer → Type 0 where
-  refused-fits : {c : Call} {n : Refusal} → AnswerFits c (refused n)
+  refused-fits : {c : Call} {n : ℕ} → AnswerFits c (refused n)
   top-fits : {h o : Text} {s : ℕ} {m : Bool} → AnswerFits (topLoad h o) (loaded s m)
   framed-fits : {c : ℕ} {h o : Text} {a : Attributes} {s : ℕ} {m : Bool} → AnswerFits (framedLoad c h o a) (loaded s m)
   unload-fits : {s n : ℕ} → AnswerFits (unload s) (removed n)
@@ -130,12 +128,10 @@ pub data AnswerFits : Call → Answer → Type 0 where
 
 pub record RefusalsExactly (who : Answering) : Type 0 where
   -- "Given exactly when (and no earlier row of the order applies)"
-  pub refused-by-first : (cs : List Call) (c : Call) (n : Refusal) → who .answerAfter cs c ≡ refused n → (r : Row) × First (who .history cs) c r × (refusalOf r ≡ n)
+  pub refused-by-first : (cs : List Call) (c : Call) (n : ℕ) → who .answerAfter cs c ≡ refused n → (r : Row) × First (who .history cs) c r × (refusalOf r ≡ n)
   pub first-is-refused : (cs : List Call) (c : Call) (r : Row) → First (who .history cs) c r → who .answerAfter cs c ≡ refused (refusalOf r)
   -- "A refusal returns only its number and changes nothing."
-  pub refused-changes-nothing : (cs : List Call) (c : Call) (n : Refusal) (ds : List Call) → who .answerAfter cs c ≡ refused n → who .answersAfter (cs ++ (c ∷ [])) ds ≡ who .answersAfter cs ds
-  -- and so a refused listing leaves the lent run as it was
-  pub refused-keeps-run : (cs : List Call) (s : ℕ) (run : List ℕ) (n : Refusal) → who .answerAfter cs (listing s run) ≡ refused n → runAfter (who .answerAfter cs (listing s run)) run ≡ run
+  pub refused-changes-nothing : (cs : List Call) (c : Call) (n : ℕ) (ds : List Call) → who .answerAfter cs c ≡ refused n → who .answersAfter (cs ++ (c ∷ [])) ds ≡ who .answersAfter cs ds
   -- a call that isn't refused has an answer of its own kind: a load its serial, an unload how many, a question Enabled or Disabled, and so on
   pub answer-fits : (cs : List Call) (c : Call) → AnswerFits c (who .answerAfter cs c)
 

@@ -6,7 +6,6 @@ use mathlib.Core.Bool.{true, false}
 use mathlib.Core.List.{List, [], _∷_, _++_, map}
 use native.Mathlib.Omega.{arith}
 use Rattle.ascii.specs.Literals.{text}
-use Rattle.limits.specs.declared.Refusal.the-variants.{NotLoaded, NoSuchFeature, BadOrigin, TooLong, Sandbox, Full, Spent, Small}
 use Rattle.items.specs.Items.Item.{token, string}
 use Rattle.dictionaries.specs.OneItemMore.{OneItemMore}
 use Rattle.pieces.specs.OneWordMore.{OneWordMore}
@@ -58,7 +57,7 @@ flows = record {
       loads ++ (question 1 camera [] ∷ between)
       ++ (question 1 camera [] ∷ question 2 camera (text "https://b.example") ∷ question 3 camera [] ∷ question 3 camera (text "https://a.example") ∷ question 4 camera [] ∷ listing 1 (7 ∷ 7 ∷ 7 ∷ []) ∷ []);
   expected =
-      loaded 1 false ∷ loaded 2 false ∷ loaded 3 false ∷ loaded 4 false ∷ loaded 5 false ∷ decision disabled ∷ removed 1 ∷ refused NotLoaded
+      loaded 1 false ∷ loaded 2 false ∷ loaded 3 false ∷ loaded 4 false ∷ loaded 5 false ∷ decision disabled ∷ removed 1 ∷ refused 1
       ∷ decision disabled ∷ decision disabled ∷ decision disabled ∷ decision disabled ∷ decision enabled ∷ serials 2 (2 ∷ 3 ∷ 7 ∷ []) ∷ [];
 }
 
@@ -127,12 +126,12 @@ rows =
     -- unloading removes all beneath
     ∷ record {
       calls = top [] ∷ framedLoad 1 [] [] (allowing "") ∷ framedLoad 2 [] [] (allowing "") ∷ unload 1 ∷ enabledFeatures 3 ∷ [];
-      expected = loaded 1 false ∷ loaded 2 false ∷ loaded 3 false ∷ removed 3 ∷ refused NotLoaded ∷ [];
+      expected = loaded 1 false ∷ loaded 2 false ∷ loaded 3 false ∷ removed 3 ∷ refused 1 ∷ [];
     }
     -- serials are never used again
     ∷ record {
       calls = topLoad [] (text "null") ∷ unload 1 ∷ topLoad [] (text "null") ∷ unload 1 ∷ [];
-      expected = loaded 1 false ∷ removed 1 ∷ loaded 2 false ∷ refused NotLoaded ∷ [];
+      expected = loaded 1 false ∷ removed 1 ∷ loaded 2 false ∷ refused 1 ∷ [];
     }
     -- a document loaded with `null` isn't at its container's origin, one loaded with the empty text is, at an opaque one too
     ∷ record {
@@ -151,7 +150,7 @@ rows =
           ∷ framedLoad 9 [] (text "null") (record { allow = []; allowfullscreen = false; hasSandbox = false; sandbox = []; src = text "x" })
           ∷ framedLoad 9 [] (text "https://b.example") (sandboxing "")
           ∷ [];
-      expected = refused BadOrigin ∷ refused NoSuchFeature ∷ refused NotLoaded ∷ refused TooLong ∷ refused BadOrigin ∷ refused TooLong ∷ refused BadOrigin ∷ refused NotLoaded ∷ [];
+      expected = refused 3 ∷ refused 2 ∷ refused 1 ∷ refused 4 ∷ refused 3 ∷ refused 4 ∷ refused 3 ∷ refused 1 ∷ [];
     }
     -- sandboxed documents, and runs that are too short
     ∷ record {
@@ -163,7 +162,7 @@ rows =
           ∷ listing 1 []
           ∷ listing 2 []
           ∷ [];
-      expected = loaded 1 false ∷ refused Sandbox ∷ loaded 2 true ∷ refused Sandbox ∷ refused Small ∷ serials 0 [] ∷ [];
+      expected = loaded 1 false ∷ refused 5 ∷ loaded 2 true ∷ refused 5 ∷ refused 9 ∷ serials 0 [] ∷ [];
     }
     -- a question is about the origin of its text, and by the declared list: https://b.example alone
     ∷ record {
@@ -181,7 +180,7 @@ rows =
       expected = loaded 1 false ∷ features 130460 ∷ loaded 2 false ∷ features 64916 ∷ [];
     }
     -- the seventeenth load; a forecast is no load, and answers on a full table too
-    ∷ record { calls = many 17 ++ (forecastOf 1 (allowing "") ∷ []); expected = map (λ n. loaded n false) (1 ∷ 2 ∷ 3 ∷ 4 ∷ 5 ∷ 6 ∷ 7 ∷ 8 ∷ 9 ∷ 10 ∷ 11 ∷ 12 ∷ 13 ∷ 14 ∷ 15 ∷ 16 ∷ []) ++ (refused Full ∷ features 64908 ∷ []) }
+    ∷ record { calls = many 17 ++ (forecastOf 1 (allowing "") ∷ []); expected = map (λ n. loaded n false) (1 ∷ 2 ∷ 3 ∷ 4 ∷ 5 ∷ 6 ∷ 7 ∷ 8 ∷ 9 ∷ 10 ∷ 11 ∷ 12 ∷ 13 ∷ 14 ∷ 15 ∷ 16 ∷ []) ++ (refused 6 ∷ features 64908 ∷ []) }
     ∷ []
 
 rows-right : map (λ r. answers (r .calls)) rows ≡ map (λ r. r .expected) rows
@@ -195,6 +194,6 @@ late = record { docs = tableAfter (many 15) .docs; next = 4294967295 }
 
 -- that serial is given, the next load gets 6 on the full table and else 7, and questions still answer
 late-right : answersBy answerTo tableLeft (topLoad [] (text "null") ∷ topLoad [] (text "null") ∷ unload 1 ∷ topLoad [] (text "null") ∷ question 4294967295 camera [] ∷ []) late
-    ≡ loaded 4294967295 false ∷ refused Full ∷ removed 1 ∷ refused Spent ∷ decision enabled ∷ []
+    ≡ loaded 4294967295 false ∷ refused 6 ∷ removed 1 ∷ refused 7 ∷ decision enabled ∷ []
 unfolding computing
 late-right = refl

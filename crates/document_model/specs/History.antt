@@ -1,4 +1,5 @@
--- 01, "What demand 3 speaks of": "loaded" and "beneath"; "Header and attribute": "sandboxed"; and counts of loads; all by the calls and their answers alone. No table is spoken of.
+-- 01, "What demand 3 speaks of": "loaded" and "beneath"; "Header and attribute": "sandboxed"; and counts of loads.
+-- The history of a list of calls is the model's, and so over its table; the relations and counts below are over calls and their answers alone, whoever gave these.
 use Prim.Native.Nat.{ℕ, suc, _+_, _≤_}
 use mathlib.Core.Path.{_≡_}
 use mathlib.Core.Bool.{Bool, true}

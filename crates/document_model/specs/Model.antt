@@ -7,6 +7,7 @@ use lib.Dec.{leb, ltb, eqb}
 use lib.ListN.{length, drop, getD}
 use Rattle.ascii.specs.Bytes.{pick}
 use Rattle.limits.specs.Limits.{textBytes, documentLimit, lastSerial}
+use Rattle.limits.specs.Refusals.{refusalNumber}
 use Rattle.limits.specs.declared.Refusal.{Refusal}
 use Rattle.limits.specs.declared.Refusal.the-variants.{NotLoaded, NoSuchFeature, BadOrigin, TooLong, Sandbox, Full, Spent, Small}
 use Rattle.features.specs.Features.{featureCount}
@@ -171,7 +172,8 @@ pub data Call : Type 0 where
   forecastOf : ℕ → Attributes → Call
 
 pub data Answer : Type 0 where
-  refused : Refusal → Answer
+  -- 01's number of the refusal
+  refused : ℕ → Answer
   -- the serial, and "A malformed header declares nothing, and the load says so"
   loaded : ℕ → Bool → Answer
   -- how many were removed
@@ -277,7 +279,7 @@ unfoldable pub outcome : Call → Table → Outcome
 outcome c t = refuseUnless TooLong (textsFit c) (fittingOutcome c t)
 
 abbrev pub answerIn : Outcome → Answer
-answerIn (refuse n) = refused n
+answerIn (refuse n) = refused (refusalNumber n)
 answerIn (accept a t) = a
 
 abbrev pub tableIn : Outcome → Table → Table

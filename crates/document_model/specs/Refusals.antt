@@ -5,8 +5,6 @@ use mathlib.Core.Bool.{true}
 use mathlib.Core.List.{List}
 use lib.ListN.{length}
 use Rattle.limits.specs.Limits.{textBytes, documentLimit, lastSerial}
-use Rattle.limits.specs.declared.Refusal.{Refusal}
-use Rattle.limits.specs.declared.Refusal.the-variants.{NotLoaded, NoSuchFeature, BadOrigin, TooLong, Sandbox, Full, Spent, NotADictionary, Small}
 use Rattle.features.specs.Features.{featureCount}
 use Rattle.origins.specs.Origins.{originOf}
 use Rattle.origins.specs.Origins.OriginSaid.{saysEmpty, saysNull, noOrigin}
@@ -34,19 +32,19 @@ place notDictionary = 8
 place outputLong = 9
 place small = 10
 
--- the row's refusal
-abbrev pub refusalOf : Row → Refusal
-refusalOf inputLong = TooLong
-refusalOf badOrigin = BadOrigin
-refusalOf badSrc = BadOrigin
-refusalOf noFeature = NoSuchFeature
-refusalOf notLoaded = NotLoaded
-refusalOf sandboxed = Sandbox
-refusalOf full = Full
-refusalOf spent = Spent
-refusalOf notDictionary = NotADictionary
-refusalOf outputLong = TooLong
-refusalOf small = Small
+-- "No.": the row's number in document 01's table
+abbrev pub refusalOf : Row → ℕ
+refusalOf inputLong = 4
+refusalOf badOrigin = 3
+refusalOf badSrc = 3
+refusalOf noFeature = 2
+refusalOf notLoaded = 1
+refusalOf sandboxed = 5
+refusalOf full = 6
+refusalOf spent = 7
+refusalOf notDictionary = 8
+refusalOf outputLong = 4
+refusalOf small = 9
 
 -- "header, allow or sandbox text"
 pub data Input : Call → Text → Type 0 where

@@ -1,8 +1,10 @@
--- What a document's record says, in the terms of the model of the calls. `documentIn` is the only definition that knows the record.
-use Prim.Native.Nat.{ℕ}
+-- What a document's record says, in the terms of the model of the calls: `documentIn`, with `ownOrigin`, is what its fields mean.
+-- Definitions of the crates above read fields themselves only where they bound the depth and put one serial more above (`document_table: Sound`, `document_loads: IsAbove`), and to write out an empty record (`document_table: noDocument`).
+use Prim.Native.Nat.{ℕ, _+_}
 use mathlib.Core.Path.{_≡_}
 use mathlib.Core.Bool.{Bool, false}
 use lib.ListN.{take}
+use Rattle.limits.specs.Limits.{textBytes, hostBytes, portDigits}
 use Rattle.features.specs.Features.{featureCount, defaultOf}
 use Rattle.origins.specs.Origins.{Origin}
 use Rattle.origins.specs.Answers.{originIn}
@@ -19,8 +21,16 @@ use Rattle.origins.specs.Matching.{sameOrigin}
 use mathlib.Core.List.{List}
 use mathlib.Core.Option.{Option, some, none}
 use Rattle.document_model.specs.Model.{Document as ModelDocument, valuesFrom, policyOf}
-use Rattle.settled.specs.Settled.{declaredIn}
+use Rattle.settled.specs.Settled.{headBytes, declaredIn}
 use Rattle.document_records.specs.declared.Document.{Document}
+
+-- the longest origin text: `https://`, a host, `:` and a port
+abbrev pub originBytes : ℕ
+originBytes = 8 + hostBytes + 1 + portDigits
+
+-- the bytes that a header is settled into, at most
+abbrev pub settledLimit : ℕ
+settledLimit = headBytes + textBytes
 
 -- the document's origin
 abbrev pub ownOrigin : Document → Origin

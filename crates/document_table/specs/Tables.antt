@@ -8,7 +8,7 @@ use lib.ListN.{length, getD, take, replicate}
 use Rattle.limits.specs.Limits.{documentLimit}
 use Rattle.origins.specs.declared.OriginRange.the-variants as origin
 use Rattle.document_model.specs.Model.{Document as ModelDocument, Table as ModelTable, valuesFrom, elem, find, remaining, removedCount, serialsBeneath}
-use Rattle.document_records.specs.Records.{documentIn}
+use Rattle.document_records.specs.Records.{originBytes, settledLimit, documentIn}
 use Rattle.document_records.specs.declared.Document.{Document}
 use Rattle.document_table.specs.declared.Table.{Table}
 use Rattle.document_table.specs.declared.Found.{Found}
@@ -18,7 +18,7 @@ use Rattle.document_table.specs.declared.Serials.{Serials}
 -- what stands in a place that no document has
 abbrev pub noDocument : Document
 noDocument =
-    record { serial = 0; above = replicate 16 0; depth = 0; origin = origin.Fresh; text = replicate 267 0; sandboxed = false; inherited = 0; header = replicate 1109 0 }
+    record { serial = 0; above = replicate documentLimit 0; depth = 0; origin = origin.Fresh; text = replicate originBytes 0; sandboxed = false; inherited = 0; header = replicate settledLimit 0 }
 
 -- the record at a place: nothing else knows how the table keeps its documents
 abbrev pub recordAt : Table → ℕ → Document

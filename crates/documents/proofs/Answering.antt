@@ -116,15 +116,15 @@ pub found-record : (t : Table) (s : ℕ) (f : Found) (i : ℕ) (d : Document) �
 found-record t s f i d h k e = h .some-at i k .1 ∙ ap some (doc-at t i ∙ ap documentIn (sym (e .is)))
 
 module _ (t : Table) (s n : ℕ) (o : Text) (x : OriginText) (b : Bool) (read : x ≡ originAs (originOf o)) (tested : b ≡ isBad x) where
-  pub refused-bad : b ≡ true → refused BadOrigin ≡ answerTo (ask s n o) (view t)
+  pub refused-bad : b ≡ true → refused 3 ≡ answerTo (ask s n o) (view t)
   refused-bad k = sym (answer-of (ask s n o) (view t) (refuse BadOrigin) (question-bad s n o (view t) (good-is o x b true read tested k)))
 
   module _ (good : b ≡ false) where
-    pub refused-feature : featureCount ≤ n → refused NoSuchFeature ≡ answerTo (ask s n o) (view t)
+    pub refused-feature : featureCount ≤ n → refused 2 ≡ answerTo (ask s n o) (view t)
     refused-feature h = sym (answer-of (ask s n o) (view t) (refuse NoSuchFeature) (question-feature s n o (view t) (good-is o x b false read tested good) h))
 
     module _ (lt : n < featureCount) (f : Found) (h : IsFound t s f) where
-      pub refused-question : f ≡ found.None → refused NotLoaded ≡ answerTo (ask s n o) (view t)
+      pub refused-question : f ≡ found.None → refused 1 ≡ answerTo (ask s n o) (view t)
       refused-question k = sym (answer-of (ask s n o) (view t) (refuse NotLoaded) (question-closed s n o (view t) (good-is o x b false read tested good) lt (h .none-at k)))
 
       pub answered-question : (i : ℕ) (d : Document) (a : DecisionOut) (r : QuestionAnswer) → f ≡ found.At i → IsRecordAt t i d → Asks d n o x a → questionIn r ≡ decisionAnswer a
@@ -139,7 +139,7 @@ module _ (t : Table) (s n : ℕ) (o : Text) (x : OriginText) (b : Bool) (read : 
 -- ---- the number of enabled features
 
 module _ (t : Table) (s : ℕ) (f : Found) (h : IsFound t s f) where
-  pub refused-features : f ≡ found.None → refused NotLoaded ≡ answerTo (enabledFeatures s) (view t)
+  pub refused-features : f ≡ found.None → refused 1 ≡ answerTo (enabledFeatures s) (view t)
   refused-features k = sym (answer-of (enabledFeatures s) (view t) (refuse NotLoaded) (enabled-closed s (view t) (h .none-at k)))
 
   pub answered-features : (i : ℕ) (d : Document) (m : ℕ) → f ≡ found.At i → IsRecordAt t i d → m ≡ enabledMask (recordPolicy d)

@@ -1,12 +1,54 @@
--- Demand 3 of the calls that run: the seven claims of `document_model/specs/Claims`, of whatever answers every list of calls as a run of the code does. Assumes nothing.
-use mathlib.Core.Path.{_≡_, sym, subst}
-use mathlib.Core.List.{List}
-use Rattle.document_model.specs.Model.{Call, Answer}
-use Rattle.document_model.specs.Answering.{byAnswers}
+-- Demand 3 of the calls that run: its two halves of any runs, and the seven claims of `document_model/specs/Claims` of whatever answers every list of calls as a run of the code does. Assumes nothing.
+use mathlib.Core.Path.{_≡_, refl, ap, sym, subst, _∙_}
+use mathlib.Core.List.{List, [], _∷_, _++_}
+use lib.ListN.{length}
+use Rattle.ascii.proofs.Clash.{clash}
+use Rattle.document_model.specs.Runs.{answersBy}
+use Rattle.document_model.specs.Model.{Call, question, Answer, answerTo, tableAfter, answers}
+use Rattle.document_model.specs.History.{Event, LoadedIn, BeneathIn, history}
+use Rattle.document_model.specs.Answering.{eventsOf, answerAt, byAnswers}
 use Rattle.document_model.specs.Claims.{DisabledFlowsDown, MoreNeverTakesAway, SerialsAndCounts, ForecastComesTrue, RefusalsExactly, SettledAtLoad, AnswersAsDefined}
+use Rattle.document_model.proofs.Laws.{answers-after, answer-at, history-is}
 use Rattle.document_model.proofs.Claims as model
-use Rattle.documents.specs.Runs.{AnsweredByCode}
-use Rattle.documents.proofs.Runs.{code-is-model}
+use Rattle.documents.specs.Runs.{Run, FlowsDownInRuns, MoreInRuns, AnsweredByCode}
+use Rattle.documents.proofs.Runs.{run-answers, code-is-model}
+
+-- ---- of any runs
+
+snoc-same : (l m : List Answer) (x y : Answer) → l ++ (x ∷ []) ≡ m ++ (y ∷ []) → (l ≡ m) × (x ≡ y)
+snoc-same [] [] x y e = (refl, cc)
+snoc-same [] (b ∷ []) x y e = clash cc
+snoc-same [] (b ∷ c ∷ m) x y e = clash cc
+snoc-same (a ∷ []) [] x y e = clash cc
+snoc-same (a ∷ c ∷ l) [] x y e = clash cc
+snoc-same (a ∷ l) (b ∷ m) x y e =
+    let w : l ++ (x ∷ []) ≡ m ++ (y ∷ []) = cc in
+    let z : a ≡ b = cc in
+    let h = snoc-same l m x y w in
+    (ap (λ (k : List Answer). a ∷ k) (h .0) ∙ ap (λ (k : Answer). k ∷ m) z, h .1)
+
+-- a run's last answer, and those before it
+run-last : (cs : List Call) (c : Call) (l : List Answer) (a : Answer) → Run (cs ++ (c ∷ [])) (l ++ (a ∷ [])) → (l ≡ answers cs) × (a ≡ answerTo c (tableAfter cs))
+unfolding answersBy
+run-last cs c l a r = snoc-same l (answers cs) a (answerTo c (tableAfter cs)) (run-answers r ∙ answers-after cs (c ∷ []))
+
+pub flows-down-in-runs : FlowsDownInRuns
+flows-down-in-runs cs ds d e f o l k b first second loaded beneath good =
+    let p = run-last cs (question d f []) l _ first in
+    let q = run-last (cs ++ ds) (question e f o) k b second in
+    let same : eventsOf (cs ++ ds) k [] ≡ history (cs ++ ds) = ap (λ (m : List Answer). eventsOf (cs ++ ds) m []) (q .0) ∙ history-is (cs ++ ds) in
+    q .1 ∙ model.disabled-flows-down cs ds d e f (sym (p .1)) (subst (λ (es : List Event). LoadedIn es e) same loaded) (subst (λ (es : List Event). BeneathIn es e d) same beneath) o good
+
+-- the answer at a call's place in a run
+run-at : (before : List Call) (c : Call) (behind : List Call) (l : List Answer) → Run (before ++ (c ∷ behind)) l → answerAt (length before) l ≡ answerTo c (tableAfter before)
+run-at before c behind l r = ap (answerAt (length before)) (run-answers r) ∙ answer-at before c behind
+
+pub more-in-runs : MoreInRuns
+more-in-runs before c d behind l m more first second p q =
+    rw (run-answers first, run-answers second)
+    (model.more-never-takes-away before c d behind more (rw (run-at before c behind l first) at p) (rw (run-at before d behind m second) at q))
+
+-- ---- of whatever answers every list as a run does
 
 module _ (f : List Call → List Answer) (h : AnsweredByCode f) where
   pub disabled-flows-down : DisabledFlowsDown (byAnswers f)

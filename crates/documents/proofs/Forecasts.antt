@@ -25,13 +25,13 @@ use Rattle.documents.specs.Steps.{isBad}
 use Rattle.documents.proofs.Answering.{good-is, found-record}
 
 module _ (t : Table) (s : ℕ) (allow : List ℕ) (marks : FrameMarks) (sandbox src : List ℕ) where
-  pub forecast-allow : textBytes < length allow → refused TooLong ≡ answerTo (forecastOf s (attributes allow marks sandbox src)) (view t)
+  pub forecast-allow : textBytes < length allow → refused 4 ≡ answerTo (forecastOf s (attributes allow marks sandbox src)) (view t)
   forecast-allow h =
       let a = attributes allow marks sandbox src in
       sym (answer-of (forecastOf s a) (view t) (refuse TooLong) (forecast-long s a (view t) (rw (lt-leb (length allow) textBytes h))))
 
   module _ (fits : length allow ≤ textBytes) where
-    pub forecast-sandbox : textBytes < length sandbox → refused TooLong ≡ answerTo (forecastOf s (attributes allow marks sandbox src)) (view t)
+    pub forecast-sandbox : textBytes < length sandbox → refused 4 ≡ answerTo (forecastOf s (attributes allow marks sandbox src)) (view t)
     forecast-sandbox h =
         let a = attributes allow marks sandbox src in
         sym (answer-of (forecastOf s a) (view t) (refuse TooLong) (forecast-long s a (view t) (rw (le-leb (length allow) textBytes fits, lt-leb (length sandbox) textBytes h))))
@@ -41,13 +41,13 @@ module _ (t : Table) (s : ℕ) (allow : List ℕ) (marks : FrameMarks) (sandbox 
       short = rw (le-leb (length allow) textBytes fits, le-leb (length sandbox) textBytes too)
 
       module _ (x : OriginText) (b : Bool) (read : x ≡ originAs (originOf src)) (tested : b ≡ isBad x) where
-        pub forecast-origin : b ≡ true → refused BadOrigin ≡ answerTo (forecastOf s (attributes allow marks sandbox src)) (view t)
+        pub forecast-origin : b ≡ true → refused 3 ≡ answerTo (forecastOf s (attributes allow marks sandbox src)) (view t)
         forecast-origin k =
             let a = attributes allow marks sandbox src in
             sym (answer-of (forecastOf s a) (view t) (refuse BadOrigin) (forecast-bad s a (view t) short (good-is src x b true read tested k)))
 
         module _ (good : b ≡ false) (f : Found) (h : IsFound t s f) where
-          pub refused-forecast : f ≡ found.None → refused NotLoaded ≡ answerTo (forecastOf s (attributes allow marks sandbox src)) (view t)
+          pub refused-forecast : f ≡ found.None → refused 1 ≡ answerTo (forecastOf s (attributes allow marks sandbox src)) (view t)
           refused-forecast k =
               let a = attributes allow marks sandbox src in
               sym (answer-of (forecastOf s a) (view t) (refuse NotLoaded) (forecast-closed s a (view t) short (good-is src x b false read tested good) (h .none-at k)))

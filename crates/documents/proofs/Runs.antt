@@ -1,7 +1,8 @@
 -- A run of the code over a list of calls has the model's answers, lent runs and table. Assumes nothing.
-use mathlib.Core.Path.{_≡_, refl, ap, sym, _∙_, fun-ext}
+use mathlib.Core.Path.{_≡_, refl, ap, sym, subst, _∙_, fun-ext}
 use Prim.Native.Nat.{ℕ}
-use mathlib.Core.List.{List, [], _∷_}
+use mathlib.Core.List.{List, [], _∷_, _++_}
+use Rattle.ascii.proofs.Clash.{clash}
 use Rattle.document_model.specs.Runs.{leftBy, answersBy}
 use Rattle.document_model.specs.Model.{Call, question, enabledFeatures, listing, forecastOf, Answer, runAfter, answerTo, tableLeft, tableAfter, answers}
 use Rattle.document_model.specs.Answering.{theModel, byAnswers}
@@ -109,17 +110,40 @@ module _ where
 module _ {cs : List Call} {l : List Answer} (r : Run cs l) where
   pub run-answers : l ≡ answers cs
   unfolding answers
-  run-answers = steps-answers (r .steps) ∙ ap (answersBy answerTo tableLeft cs) (r .new)
+  run-answers = steps-answers (r .steps) ∙ ap (answersBy answerTo tableLeft cs) (r .new .1)
 
   pub run-table : view (r .left) ≡ tableAfter cs
   unfolding tableAfter
-  run-table = steps-left (r .steps) ∙ ap (leftBy tableLeft cs) (r .new)
+  run-table = steps-left (r .steps) ∙ ap (leftBy tableLeft cs) (r .new .1)
 
   pub run-runs : r .runs ≡ runsAfter cs (answers cs)
   run-runs = steps-runs (r .steps) ∙ ap (runsAfter cs) run-answers
 
   pub run-valid : Valid (r .left)
-  run-valid = steps-valid (r .steps) (r .valid)
+  run-valid = steps-valid (r .steps) (r .new .0)
+
+-- the first calls of a run are a run, with its first answers
+record Start (cs : List Call) (l : List Answer) (t : Table) : Type 0 where
+  rest : List Answer
+  front : List Answer
+  whole : l ≡ front ++ rest
+  runs : List (List ℕ)
+  left : Table
+  steps : Steps cs t front runs left
+
+steps-start : (cs ds all : List Call) → all ≡ cs ++ ds → {t v : Table} {l : List Answer} {runs : List (List ℕ)} → Steps all t l runs v → Start cs l t
+steps-start [] ds all e {l = l} ss = record { rest = l; front = []; whole = refl; runs = []; left = _; steps = no-more }
+steps-start (c ∷ cs) ds all e no-more = clash cc
+steps-start (c ∷ cs) ds all e (then {c = b} {cs = bs} {t = t} {u = u} {a = a} {run = run} s ss) =
+    let tails : bs ≡ cs ++ ds = cc in
+    let heads : b ≡ c = cc in
+    let w = steps-start cs ds bs tails ss in
+    record { rest = w .rest; front = a ∷ w .front; whole = ap (λ (m : List Answer). a ∷ m) (w .whole); runs = run ∷ w .runs; left = w .left; steps = then (subst (λ (k : Call). Step k t a run u) heads s) (w .steps) }
+
+pub run-start : (cs ds : List Call) (l : List Answer) → Run (cs ++ ds) l → (front : List Answer) × (rest : List Answer) × (l ≡ front ++ rest) × Run cs front
+run-start cs ds l r =
+    let w = steps-start cs ds (cs ++ ds) refl (r .steps) in
+    (w .front, w .rest, w .whole, record { start = r .start; new = r .new; runs = w .runs; left = w .left; steps = w .steps })
 
 -- whatever answers as the code does is the model
 pub code-is-model : (f : List Call → List Answer) → AnsweredByCode f → byAnswers f ≡ theModel

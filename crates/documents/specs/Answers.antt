@@ -2,9 +2,10 @@
 use Prim.Native.Nat.{ℕ}
 use mathlib.Core.Path.{_≡_}
 use mathlib.Core.List.{List}
+use Rattle.limits.specs.Refusals.{refusalNumber}
 use Rattle.limits.specs.declared.Refusal.{Refusal}
 use Rattle.decisions.specs.Decisions.Decision.{disabled, enabled}
-use Rattle.document_model.specs.Model.{Call, Answer, refused, loaded, removed, decision, features, serials, answerTo, tableLeft, tableAfter}
+use Rattle.document_model.specs.Model.{Call, Answer, refused, loaded, removed, decision, features, serials, newTable, answerTo, tableLeft, tableAfter}
 use Rattle.document_table.specs.declared.Table.{Table}
 use Rattle.document_table.specs.Tables.{view, Sound}
 use Rattle.documents.specs.declared.QuestionAnswer.{QuestionAnswer}
@@ -26,28 +27,40 @@ pub record Valid (t : Table) : Type 0 where
   pub calls : List Call
   pub left : view t ≡ tableAfter calls
 
--- the answers in the model's terms
+-- the answers in the model's terms: document 01's values, and its numbers of the refusals
 abbrev pub questionIn : QuestionAnswer → Answer
 questionIn question.Enabled = decision enabled
 questionIn question.Disabled = decision disabled
-questionIn (question.Refused n) = refused n
+questionIn (question.Refused n) = refused (refusalNumber n)
 
 abbrev pub featuresIn : FeaturesAnswer → Answer
 featuresIn (mask.Features m) = features m
-featuresIn (mask.Refused n) = refused n
+featuresIn (mask.Refused n) = refused (refusalNumber n)
 
 abbrev pub loadIn : LoadAnswer → Answer
 loadIn (load.Loaded d) = loaded (d .serial) (d .malformed)
-loadIn (load.Refused n) = refused n
+loadIn (load.Refused n) = refused (refusalNumber n)
 
 abbrev pub unloadIn : UnloadAnswer → Answer
 unloadIn (unload.Removed n) = removed n
-unloadIn (unload.Refused n) = refused n
+unloadIn (unload.Refused n) = refused (refusalNumber n)
 
 -- a listing's answer holds the lent run afterwards
 abbrev pub listingIn : ListingAnswer → List ℕ → Answer
 listingIn (listing.Count n) run = serials n run
-listingIn (listing.Refused n) run = refused n
+listingIn (listing.Refused n) run = refused (refusalNumber n)
+
+-- "A new table is empty"
+abbrev pub IsNew : Table → Type 0
+IsNew t = Valid t × (view t ≡ newTable)
+
+-- a question: the answer is the model's, and the table stays
+abbrev pub Decides : Call → Table → QuestionAnswer → Type 0
+Decides c t r = questionIn r ≡ answerTo c (view t)
+
+-- the number of enabled features, or of a forecast
+abbrev pub TellsFeatures : Call → Table → FeaturesAnswer → Type 0
+TellsFeatures c t r = featuresIn r ≡ answerTo c (view t)
 
 -- a load: the answer and the table are the model's; "A refusal ... changes nothing": the very table that came in
 pub record Loads (c : Call) (t : Table) (r : Loading) : Type 0 where

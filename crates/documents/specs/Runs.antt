@@ -1,27 +1,34 @@
 -- 01, "What demand 3 speaks of": lists of calls in code. "It starts from a new table, and each call gets the table that the one before it left, after a refusal too".
 use Prim.Native.Nat.{ℕ}
 use mathlib.Core.Path.{_≡_}
-use mathlib.Core.List.{List, [], _∷_}
+use mathlib.Core.Bool.{true}
+use mathlib.Core.List.{List, [], _∷_, _++_}
+use lib.ListN.{length}
+use Rattle.origins.specs.Origins.{originOf}
 use Rattle.containers.specs.Attributes.{Attributes}
-use Rattle.document_model.specs.Model.{Text, Call, topLoad, framedLoad, unload, question, enabledFeatures, listing, forecastOf, Answer, newTable, answerTo, runAfter}
+use Rattle.decisions.specs.Decisions.Decision.{disabled}
+use Rattle.document_model.specs.Runs.{Each}
+use Rattle.document_model.specs.Model.{Text, Call, topLoad, framedLoad, unload, question, enabledFeatures, listing, forecastOf, Answer, decision, isGoodOrigin, runAfter}
+use Rattle.document_model.specs.History.{LoadedIn, BeneathIn}
+use Rattle.document_model.specs.Answering.{eventsOf, answerAt}
+use Rattle.document_model.specs.Claims.{OneMore, isAccepted, Keeps}
 use Rattle.document_table.specs.declared.Table.{Table}
-use Rattle.document_table.specs.Tables.{view}
 use Rattle.documents.specs.declared.QuestionAnswer.{QuestionAnswer}
 use Rattle.documents.specs.declared.FeaturesAnswer.{FeaturesAnswer}
 use Rattle.documents.specs.declared.ListingAnswer.{ListingAnswer}
 use Rattle.documents.specs.declared.Loading.{Loading}
 use Rattle.documents.specs.declared.Unloading.{Unloading}
-use Rattle.documents.specs.Answers.{Valid, questionIn, featuresIn, loadIn, unloadIn, listingIn, Loads, Unloads, Lists}
+use Rattle.documents.specs.Answers.{questionIn, featuresIn, loadIn, unloadIn, listingIn, IsNew, Decides, TellsFeatures, Loads, Unloads, Lists}
 
 -- one call in code: what its function ensures, with the table that it got, its answer, the lent run afterwards (empty where none is lent) and the table that it left
 pub data Step : Call → Table → Answer → List ℕ → Table → Type 0 where
   load-top : {h o : Text} {t : Table} {r : Loading} → Loads (topLoad h o) t r → Step (topLoad h o) t (loadIn (r .answer)) [] (r .table)
   load-framed : {c : ℕ} {h o : Text} {a : Attributes} {t : Table} {r : Loading} → Loads (framedLoad c h o a) t r → Step (framedLoad c h o a) t (loadIn (r .answer)) [] (r .table)
   unloads : {s : ℕ} {t : Table} {r : Unloading} → Unloads (unload s) t r → Step (unload s) t (unloadIn (r .answer)) [] (r .table)
-  asks : {s f : ℕ} {o : Text} {t : Table} (r : QuestionAnswer) → questionIn r ≡ answerTo (question s f o) (view t) → Step (question s f o) t (questionIn r) [] t
-  enables : {s : ℕ} {t : Table} (r : FeaturesAnswer) → featuresIn r ≡ answerTo (enabledFeatures s) (view t) → Step (enabledFeatures s) t (featuresIn r) [] t
+  asks : {s f : ℕ} {o : Text} {t : Table} (r : QuestionAnswer) → Decides (question s f o) t r → Step (question s f o) t (questionIn r) [] t
+  enables : {s : ℕ} {t : Table} (r : FeaturesAnswer) → TellsFeatures (enabledFeatures s) t r → Step (enabledFeatures s) t (featuresIn r) [] t
   lists : {s : ℕ} {run after : List ℕ} {t : Table} (r : ListingAnswer) → Lists (listing s run) t run after r → Step (listing s run) t (listingIn r after) after t
-  forecasts : {c : ℕ} {a : Attributes} {t : Table} (r : FeaturesAnswer) → featuresIn r ≡ answerTo (forecastOf c a) (view t) → Step (forecastOf c a) t (featuresIn r) [] t
+  forecasts : {c : ℕ} {a : Attributes} {t : Table} (r : FeaturesAnswer) → TellsFeatures (forecastOf c a) t r → Step (forecastOf c a) t (featuresIn r) [] t
 
 -- calls one after the other: the table that they got, their answers, the lent runs afterwards, and the table that they left
 pub data Steps : List Call → Table → List Answer → List (List ℕ) → Table → Type 0 where
@@ -31,8 +38,7 @@ pub data Steps : List Call → Table → List Answer → List (List ℕ) → Tab
 -- a run of the code over a list of calls: from a table that `new_table` gave
 pub record Run (cs : List Call) (l : List Answer) : Type 0 where
   pub start : Table
-  pub valid : Valid start
-  pub new : view start ≡ newTable
+  pub new : IsNew start
   pub runs : List (List ℕ)
   pub left : Table
   pub steps : Steps cs start l runs left
@@ -40,6 +46,27 @@ pub record Run (cs : List Call) (l : List Answer) : Type 0 where
 -- whatever answers every list of calls as a run of the code does
 abbrev pub AnsweredByCode : (List Call → List Answer) → Type 0
 AnsweredByCode f = (cs : List Call) → Run cs (f cs)
+
+-- ---- demand 3, of runs of the code as they happen
+
+-- "if after it a loaded document is Disabled for a feature at its own origin, every document beneath it is Disabled for it at every origin, then and after any further calls, while both stay loaded":
+-- a run ends with the question to d after the calls cs, another with the question to e after the further calls ds, which may be none; loaded and beneath by the calls and answers of the second.
+-- The first calls of a run are a run (`proofs/Runs: run-start`), so both may be parts of one
+abbrev pub FlowsDownInRuns : Type 0
+FlowsDownInRuns =
+    (cs ds : List Call) (d e f : ℕ) (o : Text) (l k : List Answer) (b : Answer)
+    → Run (cs ++ (question d f [] ∷ [])) (l ++ (decision disabled ∷ []))
+    → Run ((cs ++ ds) ++ (question e f o ∷ [])) (k ++ (b ∷ []))
+    → LoadedIn (eventsOf (cs ++ ds) k []) e → BeneathIn (eventsOf (cs ++ ds) k []) e d
+    → isGoodOrigin (originOf o) ≡ true → b ≡ decision disabled
+
+-- "take any two such lists, alike except in one call, accepted in both": two runs, and their answers place by place
+abbrev pub MoreInRuns : Type 0
+MoreInRuns =
+    (before : List Call) (c d : Call) (behind : List Call) (l m : List Answer) → OneMore c d
+    → Run (before ++ (c ∷ behind)) l → Run (before ++ (d ∷ behind)) m
+    → isAccepted (answerAt (length before) l) ≡ true → isAccepted (answerAt (length before) m) ≡ true
+    → Each Keeps l m
 
 -- the lent runs that a list of calls leaves, told its answers: each as its answer has it
 abbrev pub lentRun : Call → List ℕ

@@ -1,4 +1,4 @@
--- What the functions under the calls promise: parts of a call's answer, told what its texts say.
+-- What the functions under the calls promise: parts of a call's answer, told what its texts say. A record that is told what a text says speaks only of calls whose text reads so, and leaves the answer open for others.
 use Prim.Native.Nat.{ℕ, _≤_, _<_}
 use mathlib.Core.Path.{_≡_}
 use mathlib.Core.List.{List}

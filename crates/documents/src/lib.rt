@@ -1,12 +1,11 @@
 // The calls on the table of loaded documents.
 ghost use mathlib.Core.Path.{_≡_};
-ghost use Rattle.document_model.specs.Model.{newTable, answerTo, unload, question, enabledFeatures, listing, forecastOf, topLoad, framedLoad, stored};
+ghost use Rattle.document_model.specs.Model.{unload, question, enabledFeatures, listing, forecastOf, topLoad, framedLoad, stored};
 ghost use Prim.Native.Nat.{_≤_};
 ghost use lib.ListN.{length, take};
 ghost use Rattle.limits.specs.Limits.{documentLimit};
-ghost use Rattle.document_table.specs.Tables.{view};
 ghost use Rattle.document_loads.specs.Loads.{attributes};
-ghost use Rattle.documents.specs.Answers.{Valid, questionIn, featuresIn, Loads, Unloads, Lists};
+ghost use Rattle.documents.specs.Answers.{Valid, questionIn, IsNew, Decides, TellsFeatures, Loads, Unloads, Lists};
 ghost use Rattle.documents.specs.Steps.{decisionAnswer, isBad, Asks, isBadAtTop, IsRoom, isBarred, AreTexts, IsFrameRoom, IsAdmitted, HasPlace, LoadsAt};
 use decisions::Decision;
 use document_loads::FrameMarks;
@@ -85,7 +84,7 @@ pub struct Unloading {
 
 // A new table is empty.
 pub fn new_table() -> Table
-    ensures { λ r. ⌜ Valid r × (view r ≡ newTable) ⌝ }
+    ensures { λ r. ⌜ IsNew r ⌝ }
 {
     document_table::new_table()
 }
@@ -127,7 +126,7 @@ fn is_bad(said: OriginText) -> bool
 // The question of a feature to a document at an origin.
 pub fn question(t: Table, serial: u32, feature: u32, origin: &[u8]) -> QuestionAnswer
     requires { ⌜ Valid t ⌝ }
-    ensures { λ r. ⌜ questionIn r ≡ answerTo (question serial feature (now (origin .entry))) (view t) ⌝ }
+    ensures { λ r. ⌜ Decides (question serial feature (now (origin .entry))) t r ⌝ }
 {
     let said = origins::origin_text(origin);
     if is_bad(said) {
@@ -148,7 +147,7 @@ pub fn question(t: Table, serial: u32, feature: u32, origin: &[u8]) -> QuestionA
 // The features enabled at a document's own origin.
 pub fn enabled_features(t: Table, serial: u32) -> FeaturesAnswer
     requires { ⌜ Valid t ⌝ }
-    ensures { λ r. ⌜ featuresIn r ≡ answerTo (enabledFeatures serial) (view t) ⌝ }
+    ensures { λ r. ⌜ TellsFeatures (enabledFeatures serial) t r ⌝ }
 {
     match document_table::find(t, serial) {
         Found::At(i) => {
@@ -221,7 +220,7 @@ pub fn forecast(
     sandbox: &[u8],
 ) -> FeaturesAnswer
     requires { ⌜ Valid t ⌝ }
-    ensures { λ r. ⌜ featuresIn r ≡ answerTo (forecastOf container (attributes (now (allow .entry)) marks (now (sandbox .entry)) (now (src .entry)))) (view t) ⌝ }
+    ensures { λ r. ⌜ TellsFeatures (forecastOf container (attributes (now (allow .entry)) marks (now (sandbox .entry)) (now (src .entry)))) t r ⌝ }
 {
     if TEXT_BYTES < allow.len() {
         return FeaturesAnswer::Refused(Refusal::TooLong);

@@ -33,16 +33,16 @@ use Rattle.tidying.specs.declared.TidyAnswer.{TidyAnswer}
 use Rattle.tidying.specs.declared.TidyAnswer.the-variants as tidy
 use Rattle.replay_answers.specs.Texts.{refusedText, malformedMark, decisionText, serialsText, beneathText, answerText, tidyText, Given}
 use Rattle.replay_answers.specs.Promises.{Says, SaysOf, Numbers}
-use Rattle.replay_answers.proofs.Laws.{refused-short, answer-short, beneath-short, tidy-short}
+use Rattle.replay_answers.proofs.Laws.{refusal-small, refused-short, answer-short, beneath-short, tidy-short}
 
 -- words and a number
 pub numbers : (l k m : List ℕ) (at o r : ℕ) (w : List ℕ) (n : ℕ) → n < 2 ^ 64 → Puts l at w k o → Puts k o (decimalText n) m r → Numbers l at w n m r
 numbers l k m at o r w n h p q = record { puts = puts-on l k at o w p m (decimalText n) r q; small = h }
 
 module _ (l m : List ℕ) (at r n : ℕ) where
-  pub refused-says : (x : Refusal) → n ≡ refusalNumber x → Numbers l at (text "refused ") n m r → Says l at (refusedText x) m r
+  pub refused-says : (x : Refusal) → n ≡ refusalNumber x → Numbers l at (text "refused ") n m r → Says l at (refusedText (refusalNumber x)) m r
   unfolding refusedText
-  refused-says x e p = record { puts = rw e at (p .puts); short = refused-short x }
+  refused-says x e p = record { puts = rw e at (p .puts); short = refused-short (refusalNumber x) (refusal-small x) }
 
   pub unload-removed : (a : UnloadAnswer) → a ≡ unload.Removed n → Numbers l at (text "unloaded ") n m r → Says l at (answerText (unloadIn a)) m r
   unfolding answerText Given
@@ -53,7 +53,7 @@ module _ (l m : List ℕ) (at r n : ℕ) where
   features-says a e p = rw e (record { puts = p .puts; short = answer-short (features n) (p .small) })
 
 -- a refusal, whatever was called
-module _ (l m : List ℕ) (at r : ℕ) (x : Refusal) (p : Says l at (refusedText x) m r) where
+module _ (l m : List ℕ) (at r : ℕ) (x : Refusal) (p : Says l at (refusedText (refusalNumber x)) m r) where
   pub load-refused : (a : LoadAnswer) → a ≡ load.Refused x → Says l at (answerText (loadIn a)) m r
   unfolding answerText
   load-refused a e = rw e p

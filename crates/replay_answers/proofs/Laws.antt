@@ -26,12 +26,12 @@ use Rattle.replay_answers.specs.Promises.{Says, SaysOf}
 numbered-short : (w : List ℕ) (n : ℕ) → n < 2 ^ 64 → length (w ++ decimalText n) ≤ length w + 20
 numbered-short w n h = omega (arith, length-append w (decimalText n), decimal-short n h)
 
-refusal-small : (n : Refusal) → refusalNumber n < 2 ^ 64
+pub refusal-small : (n : Refusal) → refusalNumber n < 2 ^ 64
 refusal-small = elim [ NotLoaded ↦ omega arith | NoSuchFeature ↦ omega arith | BadOrigin ↦ omega arith | TooLong ↦ omega arith | Sandbox ↦ omega arith | Full ↦ omega arith | Spent ↦ omega arith | NotADictionary ↦ omega arith | Small ↦ omega arith ]
 
-pub refused-short : (n : Refusal) → length (refusedText n) ≤ answerBytes
+pub refused-short : (n : ℕ) → n < 2 ^ 64 → length (refusedText n) ≤ answerBytes
 unfolding refusedText
-refused-short n = omega (arith, numbered-short (text "refused ") (refusalNumber n) (refusal-small n))
+refused-short n h = omega (arith, numbered-short (text "refused ") n h)
 
 serials-short : (ns : List ℕ) → ((i : ℕ) → getD ns i 0 < 2 ^ 64) → length (serialsText ns) ≤ length ns * 21
 unfolding serialsText
@@ -52,7 +52,7 @@ beneath-short n ns h few each =
 
 pub answer-short : (a : Answer) → Given a → length (answerText a) ≤ answerBytes
 unfolding answerText Given malformedMark decisionText
-answer-short (refused n) g = refused-short n
+answer-short (refused n) g = refused-short n g
 answer-short (loaded n true) g =
     omega (arith, length-append (text "loaded " ++ decimalText n) (text " malformed"), numbered-short (text "loaded ") n g)
 answer-short (loaded n false) g = omega (arith, length-append (text "loaded " ++ decimalText n) [], numbered-short (text "loaded ") n g)
@@ -69,7 +69,7 @@ tidied-short t h = omega arith
 pub tidy-short : (a : TidyAnswer) (run : List ℕ) → length run ≤ textBytes → length (tidyText a run) ≤ answerBytes
 unfolding tidyText
 tidy-short (tidy.Length n) run h = omega (arith, length-take n run)
-tidy-short (tidy.Refused n) run h = refused-short n
+tidy-short (tidy.Refused n) run h = refused-short (refusalNumber n) (refusal-small n)
 
 -- an answer that shows a lent run within its limit
 pub says-of : (limit : ℕ) (run l m : List ℕ) (at r : ℕ) (t : List ℕ) → SaysOf limit run l at t m r → length run ≤ limit → Says l at t m r

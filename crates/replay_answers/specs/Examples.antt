@@ -5,7 +5,7 @@ use mathlib.Core.Bool.{Bool, true, false}
 use mathlib.Core.List.{List, [], _∷_}
 use Rattle.ascii.specs.Literals.{text}
 use Rattle.ascii.specs.Texts.{every, sameBytes}
-use Rattle.limits.specs.declared.Refusal.the-variants.{NotLoaded, Small}
+use Rattle.limits.specs.declared.Refusal.the-variants.{Small}
 use Rattle.decisions.specs.Decisions.Decision.{disabled, enabled}
 use Rattle.document_model.specs.Model.{Answer, refused, loaded, removed, decision, features, serials}
 use Rattle.tidying.specs.declared.TidyAnswer.{TidyAnswer}
@@ -33,8 +33,8 @@ rows =
     ∷ says (features 131071) "features 131071"
     ∷ says (serials 0 []) "beneath 0"
     ∷ says (serials 2 (3 ∷ 10 ∷ 7 ∷ [])) "beneath 2 3 10"
-    ∷ says (refused NotLoaded) "refused 1"
-    ∷ says (refused Small) "refused 9"
+    ∷ says (refused 1) "refused 1"
+    ∷ says (refused 9) "refused 9"
     ∷ tidies (tidy.Length 8) "camera=*....." "tidied camera=*"
     ∷ tidies (tidy.Length 0) "....." "tidied "
     ∷ tidies (tidy.Refused Small) "....." "refused 9"

@@ -5,7 +5,6 @@ use mathlib.Core.List.{List, [], _∷_, _++_}
 use lib.ListN.{length, take, getD}
 use Rattle.limits.specs.Limits.{textBytes, documentLimit}
 use Rattle.limits.specs.Refusals.{refusalNumber}
-use Rattle.limits.specs.declared.Refusal.{Refusal}
 use Rattle.ascii.specs.Literals.{text}
 use Rattle.ascii.specs.Decimals.{decimalText}
 use Rattle.decisions.specs.Decisions.{Decision}
@@ -15,8 +14,8 @@ use Rattle.tidying.specs.declared.TidyAnswer.the-variants as tidy
 use Rattle.document_model.specs.Model.{Text, Answer, refused, loaded, removed, decision, features, serials}
 
 -- "`refused N`: a refusal, by its number"
-unfoldable pub refusedText : Refusal → Text
-refusedText n = text "refused " ++ decimalText (refusalNumber n)
+unfoldable pub refusedText : ℕ → Text
+refusedText n = text "refused " ++ decimalText n
 
 -- "`loaded N malformed`: an accepted load whose header was malformed"
 unfoldable pub malformedMark : Bool → Text
@@ -53,7 +52,7 @@ tidiedText t = text "tidied " ++ t
 -- the answer of tidying, with the lent run afterwards
 unfoldable pub tidyText : TidyAnswer → List ℕ → Text
 tidyText (tidy.Length n) run = tidiedText (take n run)
-tidyText (tidy.Refused n) run = refusedText n
+tidyText (tidy.Refused n) run = refusedText (refusalNumber n)
 
 -- "`bad line`: the line is none of the calls"
 abbrev pub badLineText : Text
@@ -65,7 +64,7 @@ answerBytes = 7 + textBytes
 
 -- answers whose numbers fit 64 bits, and that list at most as many serials as documents can be loaded
 unfoldable pub Given : Answer → Type 0
-Given (refused n) = Unit {0}
+Given (refused n) = n < 2 ^ 64
 Given (loaded n malformed) = n < 2 ^ 64
 Given (removed n) = n < 2 ^ 64
 Given (decision d) = Unit {0}

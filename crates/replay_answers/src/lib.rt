@@ -4,6 +4,7 @@ ghost use Prim.Native.Nat.{_+_};
 ghost use lib.ListN.{length};
 ghost use lib.Dec.{leb};
 ghost use Rattle.limits.specs.Limits.{textBytes, documentLimit};
+ghost use Rattle.limits.specs.Refusals.{refusalNumber};
 ghost use Rattle.documents.specs.Answers.{loadIn, unloadIn, questionIn, featuresIn, listingIn};
 ghost use Rattle.replay_answers.specs.Texts.{refusedText, beneathText, answerText, tidyText, badLineText, answerBytes};
 ghost use Rattle.replay_answers.specs.Promises.{Numbers, Says, SaysOf};
@@ -39,7 +40,7 @@ fn put_numbered(run: &mut [u8], at: usize, words: &[u8], n: u64) -> usize
 
 // Puts a refusal.
 fn put_refused(run: &mut [u8], at: usize, n: Refusal) -> usize
-    ensures { λ r. ⌜ Says (now (run .entry)) at (refusedText n) (now (run .exit)) r ⌝ }
+    ensures { λ r. ⌜ Says (now (run .entry)) at (refusedText (refusalNumber n)) (now (run .exit)) r ⌝ }
 {
     put_numbered(run, at, b"refused ", limits::refusal_number(n) as u64)
 }
