@@ -95,6 +95,6 @@ pub tidied-text : (n : ℕ) (run : List ℕ) → tidyText (tidy.Length n) run �
 unfolding tidyText
 tidied-text n run = refl
 
-pub tidy-refused : (n : Refusal) (run : List ℕ) → tidyText (tidy.Refused n) run ≡ text "refused " ++ decimalText (refusalNumber n)
-unfolding tidyText refusedText
+pub tidy-refused : (n : Refusal) (run : List ℕ) → tidyText (tidy.Refused n) run ≡ refusedText (refusalNumber n)
+unfolding tidyText
 tidy-refused n run = refl

@@ -1,20 +1,17 @@
 -- The replay format: what a line answers on a table of documents, and the table that it leaves.
 use Prim.Native.Nat.{ℕ}
-use mathlib.Core.List.{_++_}
 use lib.ListN.{replicate}
-use Rattle.ascii.specs.Literals.{text}
-use Rattle.ascii.specs.Decimals.{decimalText}
 use Rattle.tidying.specs.Tidied.{tidied}
 use Rattle.tidying.specs.Answers.{Answer as TidyAnswer, lengthIs, refusal, tidyAnswer}
 use Rattle.document_model.specs.Model.{Text, Table, topLoad, framedLoad, unload, question, enabledFeatures, listing, forecastOf, answerTo, tableLeft}
-use Rattle.replay_answers.specs.Texts.{answerText, tidiedText, badLineText}
+use Rattle.replay_answers.specs.Texts.{answerText, refusedText, tidiedText, badLineText}
 use Rattle.replay_lines.specs.Format.{Line}
 use Rattle.replay_lines.specs.Format.Line.{top, frame, unload as unloadLine, ask, enabled, beneath, forecast, tidy, badLine}
 
 -- "tidied TEXT" or "refused N", for a header and a lent run of so many bytes
 abbrev pub tidyLineText : TidyAnswer → Text → Text
 tidyLineText (lengthIs n) form = tidiedText form
-tidyLineText (refusal n) form = text "refused " ++ decimalText n
+tidyLineText (refusal n) form = refusedText n
 
 -- "Answers, a line each"; "ROOM is the length of the lent run."
 unfoldable pub lineAnswer : Line → Table → Text
