@@ -1,0 +1,575 @@
+//! Random sessions: lists of calls, aimed by the answers so far.
+
+use super::model::{Known, Model};
+use super::random::Random;
+use super::texts::{self, Mood, OriginShares};
+use super::Session;
+use crate::features::FEATURE_COUNT;
+use crate::limits::{MAX_DOCUMENTS, MAX_TIDIED_BYTES};
+use crate::replay;
+use crate::table::Table;
+use crate::tidy::tidy;
+
+/// What a session tends to.
+struct Style {
+    mood: Mood,
+    /// How many documents it likes to have loaded.
+    documents: usize,
+    /// How often of a hundred a frame goes into the deepest document.
+    deepest: usize,
+    /// How many lines of a hundred are broken.
+    bad_lines: usize,
+    /// How many serials of a hundred name no loaded document.
+    bad_serials: usize,
+    /// How many origin texts of a hundred are bad.
+    bad_origins: usize,
+    /// How many feature numbers of a hundred are bad.
+    bad_features: usize,
+    /// How many calls of a hundred have several reasons to be refused.
+    trouble: usize,
+}
+
+impl Style {
+    fn new(random: &mut Random, keep_short: bool) -> Self {
+        let mood = Mood::new(random);
+        Style {
+            mood: if keep_short {
+                mood.keeping_short()
+            } else {
+                mood
+            },
+            documents: *random.pick(&[3, 5, 8, 12, MAX_DOCUMENTS, MAX_DOCUMENTS]),
+            deepest: *random.pick(&[0, 30, 60, 90]),
+            bad_lines: *random.pick(&[0, 2, 4, 8]),
+            bad_serials: *random.pick(&[2, 6, 12]),
+            bad_origins: *random.pick(&[2, 5]),
+            bad_features: *random.pick(&[2, 5]),
+            trouble: if keep_short {
+                1
+            } else {
+                *random.pick(&[0, 4, 10])
+            },
+        }
+    }
+
+    /// The same, for a call with several reasons to be refused.
+    fn troubled(&self) -> Self {
+        Style {
+            mood: Mood {
+                long: 250,
+                damage: 30,
+                ..self.mood.clone()
+            },
+            bad_serials: 45,
+            bad_origins: 45,
+            bad_features: 45,
+            ..*self
+        }
+    }
+}
+
+/// How many calls in a row keep one style in a session that is kept.
+const STYLE_CALLS: usize = 400;
+
+/// Makes the lines of one session one by one.
+pub struct Generator {
+    random: Random,
+    style: Style,
+    model: Model,
+    table: Table,
+    keep_short: bool,
+    made: usize,
+    /// Whether the last call was an accepted load.
+    just_loaded: bool,
+}
+
+/// A line, this engine's answer to it, and the model as it was before.
+pub struct Step<'a> {
+    pub line: &'a [u8],
+    pub answer: &'a [u8],
+    pub before: &'a Model,
+}
+
+impl Generator {
+    pub fn new(mut random: Random, keep_short: bool) -> Self {
+        let style = Style::new(&mut random, keep_short);
+        Generator {
+            random,
+            style,
+            model: Model::default(),
+            table: Table::new(),
+            keep_short,
+            made: 0,
+            just_loaded: false,
+        }
+    }
+
+    /// Makes so many lines, with this engine's answers.
+    pub fn session(
+        mut self,
+        calls: usize,
+        mut observe: impl FnMut(Step),
+    ) -> (Session, Vec<Vec<u8>>) {
+        let mut lines = Vec::with_capacity(calls);
+        let mut answers = Vec::with_capacity(calls);
+        for _ in 0..calls {
+            if self.keep_short && self.made % STYLE_CALLS == STYLE_CALLS - 1 {
+                self.style = Style::new(&mut self.random, true);
+            }
+            self.made += 1;
+            let (line, sandboxed) = self.line();
+            let mut answer = Vec::new();
+            replay::answer(&mut self.table, &line, &mut answer);
+            observe(Step {
+                line: &line,
+                answer: &answer,
+                before: &self.model,
+            });
+            self.model.observe(&line, &answer, sandboxed);
+            self.just_loaded = answer.starts_with(b"loaded");
+            lines.push(line);
+            answers.push(answer);
+        }
+        (lines, answers)
+    }
+
+    /// A line, and whether it is meant as a sandboxed load.
+    fn line(&mut self) -> (Vec<u8>, bool) {
+        let (mut line, sandboxed) = if self.random.percent(self.style.trouble) {
+            let troubled = self.style.troubled();
+            let usual = std::mem::replace(&mut self.style, troubled);
+            let made = self.call();
+            self.style = usual;
+            made
+        } else {
+            self.call()
+        };
+        if self.random.percent(self.style.bad_lines) {
+            line = self.broken(line);
+        }
+        (line, sandboxed)
+    }
+
+    fn call(&mut self) -> (Vec<u8>, bool) {
+        // What the new document may do is mostly asked at once.
+        if self.just_loaded && self.random.percent(60) {
+            let serial = self.model.last_serial.to_string().into_bytes();
+            return (line("enabled", &[serial]), false);
+        }
+        let live = self.model.live.len();
+        let wants_more = live < self.style.documents;
+        let full = live >= MAX_DOCUMENTS;
+        let weights = [
+            match (live, wants_more) {
+                (0, _) => 60,
+                (_, true) => 6,
+                (_, false) => 1,
+            },
+            match (wants_more, full) {
+                (true, _) => 40,
+                (false, true) => 10,
+                (false, false) => 4,
+            },
+            if wants_more { 2 } else { 14 },
+            45,
+            4,
+            5,
+            12,
+            12,
+        ];
+        match self.random.weighted(&weights) {
+            0 => (self.top(), false),
+            1 => self.frame(),
+            2 => (self.unload(), false),
+            3 => (self.ask(), false),
+            4 => (self.enabled(), false),
+            5 => (self.beneath(), false),
+            6 => (self.forecast(), false),
+            _ => (self.tidy(), false),
+        }
+    }
+
+    // ------------------------------------------------------ the calls
+
+    fn top(&mut self) -> Vec<u8> {
+        let shares = OriginShares {
+            null: 12,
+            empty: 4,
+            bad: self.style.bad_origins,
+        };
+        let origin = texts::origin_text(&mut self.random, &self.style.mood, shares);
+        let header = texts::header(&mut self.random, &self.style.mood);
+        let fields = [self.text(&origin), self.text(&header)];
+        line("top", &fields)
+    }
+
+    fn frame(&mut self) -> (Vec<u8>, bool) {
+        let container = self.container();
+        let (sandbox, attribute_sandboxes) = self.sandbox_field();
+        let sandboxed = attribute_sandboxes || self.is_sandboxed(container);
+        let src = self.src();
+        // Mostly what was announced arrives; sandboxed frames must be null.
+        let origin = if sandboxed && !self.random.percent(15) {
+            b"null".to_vec()
+        } else if self.random.percent(45) {
+            src.clone()
+        } else {
+            let shares = OriginShares {
+                null: 10,
+                empty: 15,
+                bad: self.style.bad_origins,
+            };
+            texts::origin_text(&mut self.random, &self.style.mood, shares)
+        };
+        let allow = texts::allow(&mut self.random, &self.style.mood);
+        let header = if self.random.percent(35) {
+            Vec::new()
+        } else {
+            texts::header(&mut self.random, &self.style.mood)
+        };
+        let fields = [
+            container.to_string().into_bytes(),
+            self.text(&origin),
+            self.text(&src),
+            self.flag(),
+            self.text(&allow),
+            sandbox,
+            self.text(&header),
+        ];
+        (line("frame", &fields), sandboxed)
+    }
+
+    fn forecast(&mut self) -> Vec<u8> {
+        let container = self.container();
+        let (sandbox, _) = self.sandbox_field();
+        let src = self.src();
+        let allow = texts::allow(&mut self.random, &self.style.mood);
+        let fields = [
+            container.to_string().into_bytes(),
+            self.text(&src),
+            self.flag(),
+            self.text(&allow),
+            sandbox,
+        ];
+        line("forecast", &fields)
+    }
+
+    fn unload(&mut self) -> Vec<u8> {
+        let candidates: Vec<u32> = match self.random.below(10) {
+            0 => self.where_known(|model, d| model.is_leaf(d.serial) && d.depth == 0),
+            1 => self.where_known(|_, d| d.depth == 0),
+            2..=3 => self.where_known(|_, d| d.depth > 0),
+            _ => self.where_known(|model, d| model.is_leaf(d.serial)),
+        };
+        let serial = if candidates.is_empty() || self.random.percent(self.style.bad_serials) {
+            self.serial_not_loaded()
+        } else {
+            *self.random.pick(&candidates)
+        };
+        line("unload", &[serial.to_string().into_bytes()])
+    }
+
+    fn ask(&mut self) -> Vec<u8> {
+        let serial = self.serial();
+        let feature = if self.random.percent(self.style.bad_features) {
+            *self
+                .random
+                .pick(&[17, 17, 18, 31, 32, 255, 256, 65536, u32::MAX])
+        } else if self.random.percent(65) {
+            *self.random.pick(&self.style.mood.features) as u32
+        } else {
+            self.random.below(FEATURE_COUNT) as u32
+        };
+        let shares = OriginShares {
+            null: 8,
+            empty: 35,
+            bad: self.style.bad_origins,
+        };
+        let origin = texts::origin_text(&mut self.random, &self.style.mood, shares);
+        let fields = [
+            serial.to_string().into_bytes(),
+            feature.to_string().into_bytes(),
+            self.text(&origin),
+        ];
+        line("ask", &fields)
+    }
+
+    fn enabled(&mut self) -> Vec<u8> {
+        let serial = self.serial();
+        line("enabled", &[serial.to_string().into_bytes()])
+    }
+
+    fn beneath(&mut self) -> Vec<u8> {
+        let serial = self.serial();
+        let room = self.room(self.model.beneath(serial).len());
+        line(
+            "beneath",
+            &[
+                serial.to_string().into_bytes(),
+                room.to_string().into_bytes(),
+            ],
+        )
+    }
+
+    fn tidy(&mut self) -> Vec<u8> {
+        let header = texts::header_to_tidy(&mut self.random, &self.style.mood);
+        let length = tidy(&header, &mut [0; MAX_TIDIED_BYTES]).unwrap_or(0);
+        let room = self.room(length);
+        let fields = [room.to_string().into_bytes(), self.text(&header)];
+        line("tidy", &fields)
+    }
+
+    // ----------------------------------------------------- the fields
+
+    /// A lent run for an output of this length: enough, or just not enough.
+    fn room(&mut self, length: usize) -> u32 {
+        let length = length as u32;
+        match self.random.below(12) {
+            0 => 0,
+            1 | 2 => length.saturating_sub(1),
+            3..=5 => length,
+            6 => length + 1,
+            7 => self.random.below(20) as u32,
+            8 => *self.random.pick(&[16, 17, 1023, 1024, 1025, 65536]),
+            _ => *self.random.pick(&[5000, u32::MAX, u32::MAX - 1, 1 << 31]),
+        }
+    }
+
+    fn where_known(&self, wanted: impl Fn(&Model, &Known) -> bool) -> Vec<u32> {
+        self.model
+            .live
+            .iter()
+            .filter(|d| wanted(&self.model, d))
+            .map(|d| d.serial)
+            .collect()
+    }
+
+    fn is_sandboxed(&self, serial: u32) -> bool {
+        self.model.get(serial).is_some_and(|d| d.sandboxed)
+    }
+
+    /// A serial to ask about: mostly a loaded document, deep ones preferred.
+    fn serial(&mut self) -> u32 {
+        if self.model.live.is_empty() || self.random.percent(self.style.bad_serials) {
+            return self.serial_not_loaded();
+        }
+        let deep = self.where_known(|_, d| d.depth >= 2);
+        if !deep.is_empty() && self.random.percent(40) {
+            return *self.random.pick(&deep);
+        }
+        self.random.pick(&self.model.live).serial
+    }
+
+    fn container(&mut self) -> u32 {
+        if self.model.live.is_empty() || self.random.percent(self.style.bad_serials) {
+            return self.serial_not_loaded();
+        }
+        if self.random.percent(self.style.deepest) {
+            let deepest = self.model.live.iter().max_by_key(|d| d.depth);
+            return deepest.map_or(0, |d| d.serial);
+        }
+        self.random.pick(&self.model.live).serial
+    }
+
+    /// Closed, zero, to come, or huge.
+    fn serial_not_loaded(&mut self) -> u32 {
+        match self.random.below(10) {
+            0..=4 if !self.model.closed.is_empty() => {
+                // Those closed lately more often.
+                let lately = self.model.closed.len().saturating_sub(6);
+                if self.random.percent(60) {
+                    *self.random.pick(&self.model.closed[lately..])
+                } else {
+                    *self.random.pick(&self.model.closed)
+                }
+            }
+            0..=5 => 0,
+            6..=7 => self.model.last_serial + 1,
+            8 => self.model.last_serial + 2 + self.random.below(20) as u32,
+            _ => *self
+                .random
+                .pick(&[u32::MAX, u32::MAX - 1, 1 << 31, 65536, 256]),
+        }
+    }
+
+    fn src(&mut self) -> Vec<u8> {
+        let shares = OriginShares {
+            null: 8,
+            empty: 15,
+            bad: self.style.bad_origins,
+        };
+        texts::origin_text(&mut self.random, &self.style.mood, shares)
+    }
+
+    fn flag(&mut self) -> Vec<u8> {
+        self.random.pick(&["0", "0", "1"]).as_bytes().to_vec()
+    }
+
+    /// The field, and whether the attribute is meant to sandbox.
+    fn sandbox_field(&mut self) -> (Vec<u8>, bool) {
+        if !self.random.percent(self.style.mood.sandbox) {
+            return (b"0".to_vec(), false);
+        }
+        let (text, same_origin) = texts::sandbox(&mut self.random, &self.style.mood);
+        let mut field = b"1".to_vec();
+        field.extend_from_slice(&self.text(&text));
+        (field, !same_origin)
+    }
+
+    /// A text as a field, now and then with needless `%XX`.
+    fn text(&mut self, bytes: &[u8]) -> Vec<u8> {
+        let needless = if !self.random.percent(self.style.mood.escapes) {
+            0
+        } else if self.random.percent(85) || bytes.len() > 200 {
+            10
+        } else {
+            100
+        };
+        let mut field = Vec::with_capacity(bytes.len());
+        for &byte in bytes {
+            let needed = matches!(byte, b'\t' | b'\n' | b'%');
+            if needed || (needless > 0 && self.random.percent(needless)) {
+                field.push(b'%');
+                for digit in [byte >> 4, byte & 15] {
+                    let digits: &[u8; 16] = if self.random.percent(50) {
+                        b"0123456789abcdef"
+                    } else {
+                        b"0123456789ABCDEF"
+                    };
+                    field.push(digits[usize::from(digit)]);
+                }
+            } else {
+                field.push(byte);
+            }
+        }
+        field
+    }
+
+    // -------------------------------------------------- broken lines
+
+    /// Mostly a bad line; never two lines.
+    fn broken(&mut self, good: Vec<u8>) -> Vec<u8> {
+        let mut fields: Vec<Vec<u8>> = good.split(|&b| b == b'\t').map(<[u8]>::to_vec).collect();
+        let last = fields.len() - 1;
+        match self.random.below(13) {
+            0 => return Vec::new(),
+            1 => {
+                fields.pop();
+            }
+            2 => fields.push(self.random.pick(&["", "0", "x"]).as_bytes().to_vec()),
+            3 => {
+                let place = self.random.between(1, last);
+                fields.insert(place, Vec::new());
+            }
+            4 => {
+                fields[0] = self
+                    .random
+                    .pick(&[
+                        "Top",
+                        "load",
+                        "",
+                        "ask ",
+                        " ask",
+                        "tid",
+                        "tidyy",
+                        "forecasts",
+                        "%61sk",
+                        "a%73k",
+                    ])
+                    .as_bytes()
+                    .to_vec();
+            }
+            5..=6 => self.break_number(&mut fields),
+            7..=8 => {
+                // A `%` without its two digits, in any field.
+                let place = self.random.between(1, last);
+                let broken = *self
+                    .random
+                    .pick(&["%", "%%", "%4", "%4g", "%g4", "% 4", "%x41", "%0"]);
+                let at = self.random.below(fields[place].len() + 1);
+                let tail = fields[place].split_off(at);
+                fields[place].extend_from_slice(broken.as_bytes());
+                fields[place].extend_from_slice(&tail);
+            }
+            9 => self.break_frame(&mut fields),
+            10 => fields[last].push(b'\r'),
+            11 => {
+                // Another separator.
+                let place = self.random.below(fields.len());
+                let separator = *self.random.pick(b" ,;\r\0");
+                fields[place].push(separator);
+                if place < last {
+                    let next = fields.remove(place + 1);
+                    fields[place].extend_from_slice(&next);
+                }
+            }
+            _ => {
+                let mut line = good;
+                texts::damage(&mut self.random, &mut line);
+                line.retain(|&b| b != b'\n');
+                return line;
+            }
+        }
+        fields.join(&b'\t')
+    }
+
+    /// The first number of the line made something else.
+    fn break_number(&mut self, fields: &mut [Vec<u8>]) {
+        let place = if fields[0] == b"ask" && self.random.percent(50) {
+            2
+        } else {
+            1
+        };
+        let Some(number) = fields.get_mut(place) else {
+            return;
+        };
+        let text = String::from_utf8_lossy(number).into_owned();
+        *number = match self.random.below(15) {
+            0 => format!("0{text}"),
+            1 => format!("+{text}"),
+            2 => format!("-{text}"),
+            3 => "4294967296".to_string(),
+            4 => "4294967295".to_string(),
+            5 => "42949672950".to_string(),
+            6 => String::new(),
+            7 => format!("{text} "),
+            8 => format!(" {text}"),
+            9 => "00".to_string(),
+            10 => format!("%3{}", text.chars().next().unwrap_or('1')),
+            11 => "18446744073709551617".to_string(),
+            12 => format!("{text}a"),
+            13 => format!("{}1", self.random.pick(&["0", "9"]).repeat(300)),
+            _ => "4294967297".to_string(),
+        }
+        .into_bytes();
+    }
+
+    /// FULLSCREEN or SANDBOX made something else.
+    fn break_frame(&mut self, fields: &mut [Vec<u8>]) {
+        let sandbox = if fields[0] == b"frame" {
+            6
+        } else if fields[0] == b"forecast" {
+            5
+        } else {
+            fields[0].push(b's');
+            return;
+        };
+        let fullscreen = sandbox - 2;
+        if self.random.percent(50) {
+            let choices = ["2", "", "0x", "%31", "%30", "01", "00", " 1", "x", "-"];
+            fields[sandbox] = self.random.pick(&choices).as_bytes().to_vec();
+        } else {
+            let choices = ["2", "", "00", "01", "11", "%31", "%30", "true", "0 ", "-0"];
+            fields[fullscreen] = self.random.pick(&choices).as_bytes().to_vec();
+        }
+    }
+}
+
+fn line(name: &str, fields: &[Vec<u8>]) -> Vec<u8> {
+    let mut line = name.as_bytes().to_vec();
+    for field in fields {
+        line.push(b'\t');
+        line.extend_from_slice(field);
+    }
+    line
+}

@@ -1,0 +1,148 @@
+//! Tidied headers.
+
+use crate::features::FEATURES;
+use crate::header::{DeclaredList, DeclaredPolicy};
+use crate::limits::{MAX_TEXT_BYTES, MAX_TIDIED_BYTES};
+use crate::refusal::Refusal;
+
+/// Writes the header's tidied form into the lent bytes and answers its length;
+/// the bytes after it stay as they are.
+pub fn tidy(header: &[u8], lent: &mut [u8]) -> Result<usize, Refusal> {
+    if header.len() > MAX_TEXT_BYTES {
+        return Err(Refusal::TooLong);
+    }
+    let policy = DeclaredPolicy::parse(header).map_err(|_| Refusal::NotADictionary)?;
+    let tidied = tidied_form(&policy);
+    if tidied.len() > MAX_TIDIED_BYTES {
+        return Err(Refusal::TooLong);
+    }
+    let place = lent.get_mut(..tidied.len()).ok_or(Refusal::Small)?;
+    place.copy_from_slice(&tidied);
+    Ok(tidied.len())
+}
+
+/// "Known, declared features in number order, joined by `, `."
+pub fn tidied_form(policy: &DeclaredPolicy) -> Vec<u8> {
+    let mut out = Vec::new();
+    for (feature, list) in FEATURES.iter().zip(&policy.lists) {
+        let Some(list) = list else {
+            continue;
+        };
+        if !out.is_empty() {
+            out.extend_from_slice(b", ");
+        }
+        out.extend_from_slice(feature.name.as_bytes());
+        out.push(b'=');
+        write_list(list, &mut out);
+    }
+    out
+}
+
+/// "`name=*`, else `name=(...)` with `self` first, then each expression once,
+/// in order of first appearance, as a string, [...] one space between."
+fn write_list(list: &DeclaredList, out: &mut Vec<u8>) {
+    let DeclaredList::Listed {
+        own_origin,
+        expressions,
+    } = list
+    else {
+        out.push(b'*');
+        return;
+    };
+    out.push(b'(');
+    if *own_origin {
+        out.extend_from_slice(b"self");
+    }
+    for (index, expression) in expressions.iter().enumerate() {
+        if *own_origin || index > 0 {
+            out.push(b' ');
+        }
+        out.push(b'"');
+        expression.write_tidied(out);
+        out.push(b'"');
+    }
+    out.push(b')');
+}
+
+#[cfg(test)]
+mod tests {
+    use super::*;
+
+    fn tidied(header: &str) -> Result<String, Refusal> {
+        let mut lent = [0xee; 2000];
+        let length = tidy(header.as_bytes(), &mut lent)?;
+        assert!(lent[length..].iter().all(|&b| b == 0xee));
+        Ok(String::from_utf8(lent[..length].to_vec()).expect("ascii"))
+    }
+
+    #[test]
+    fn the_example() {
+        let header = concat!(
+            r#"usb=self,camera=("https://B.example:443" self "https://b.example"),"#,
+            "foo=1,forms=(self *)"
+        );
+        let out = r#"camera=(self "https://b.example"), forms=*, usb=(self)"#;
+        assert_eq!(tidied(header).as_deref(), Ok(out));
+        assert_eq!(tidied(out).as_deref(), Ok(out));
+    }
+
+    #[test]
+    fn forms() {
+        assert_eq!(tidied("").as_deref(), Ok(""));
+        assert_eq!(tidied("foo=*, camera=1").as_deref(), Ok(""));
+        assert_eq!(tidied("camera=( 1 \"x\" )").as_deref(), Ok("camera=()"));
+        assert_eq!(
+            tidied(r#"camera=("http:";a "http://b:0080" "http:" "http://a:00443");x=1"#).as_deref(),
+            Ok(r#"camera=("http:" "http://b" "http://a:443")"#)
+        );
+        assert_eq!(tidied("camera=(self), "), Err(Refusal::NotADictionary));
+    }
+
+    #[test]
+    fn refusals_in_order() {
+        let long = "x".repeat(1025);
+        assert_eq!(tidied(&long), Err(Refusal::TooLong));
+        assert_eq!(tidied(&long[1..]).as_deref(), Ok(""));
+        assert_eq!(tidied("X"), Err(Refusal::NotADictionary));
+        assert_eq!(tidy(b"X", &mut []), Err(Refusal::NotADictionary));
+
+        // Tidying adds brackets and spaces.
+        let header = |extra: usize| {
+            let hosts: Vec<String> = (0..4)
+                .map(|i| format!("{i}{}", "a".repeat(234 + if i == 3 { extra } else { 0 })))
+                .collect();
+            let list = |i: usize| format!("\"https://{}\"", hosts[i]);
+            format!(
+                "camera={},forms={},payment=({} {})",
+                list(0),
+                list(1),
+                list(2),
+                list(3)
+            )
+        };
+        let empty = tidied(&header(0)).expect("short enough").len();
+        let exact = 1024 - empty;
+        assert!(header(exact + 1).len() <= 1024);
+        assert_eq!(tidied(&header(exact)).map(|t| t.len()), Ok(1024));
+        assert_eq!(tidied(&header(exact + 1)), Err(Refusal::TooLong));
+        // 4 for output before 9.
+        assert_eq!(
+            tidy(header(exact + 1).as_bytes(), &mut []),
+            Err(Refusal::TooLong)
+        );
+        assert_eq!(
+            tidy(header(exact).as_bytes(), &mut [0; 1023]),
+            Err(Refusal::Small)
+        );
+    }
+
+    #[test]
+    fn a_short_run_stays_as_it_is() {
+        let mut lent = [0xee; 8];
+        assert_eq!(tidy(b"camera=()", &mut lent), Err(Refusal::Small));
+        assert_eq!(lent, [0xee; 8]);
+        let mut lent = [0xee; 9];
+        assert_eq!(tidy(b"camera=()", &mut lent), Ok(9));
+        assert_eq!(tidy(b"", &mut []), Ok(0));
+    }
+}
