@@ -13,7 +13,7 @@ use Rattle.limits.specs.Refusals.{refusalNumber}
 use Rattle.limits.specs.declared.Refusal.{Refusal}
 use Rattle.limits.specs.declared.Refusal.the-variants.{NotLoaded, NoSuchFeature, BadOrigin, TooLong, Sandbox, Full, Spent, Small}
 use Rattle.origins.specs.Origins.{OriginSaid, originOf}
-use Rattle.document_model.specs.Runs.{leftBy}
+use Rattle.document_model.specs.Runs.{leftBy, answersBy}
 use Rattle.containers.specs.Attributes.{Attributes}
 use Rattle.document_model.specs.Model.{Text, Identity, Document, Table, newTable, isAtOrBeneath, find, remaining, removedCount, Call, topLoad, framedLoad, unload, question, enabledFeatures, listing, forecastOf, Answer, refused, loaded, removed, Outcome, refuse, accept, refuseUnless, withDocument, textsFit, load, topIdentity, framedIdentity, topDocument, framedDocument, fittingOutcome, outcome, answerIn, tableIn, answerTo, tableLeft, tableAfter, answers, answersAfter}
 use Rattle.document_model.specs.History.{Event, Gave, gave-top, gave-framed, Unloaded, Happened, last, earlier, eventsFrom, history, acceptedLoad, unloadAnswer, acceptedLoads, unloadSum}
@@ -38,6 +38,20 @@ table-none = refl
 pub answers-after : (cs ds : List Call) → answers (cs ++ ds) ≡ answers cs ++ answersAfter cs ds
 unfolding answers tableAfter
 answers-after cs ds = answers-append answerTo tableLeft cs ds newTable
+
+-- one call more
+pub answers-one : (cs : List Call) (c : Call) → answers (cs ++ (c ∷ [])) ≡ answers cs ++ (answerTo c (tableAfter cs) ∷ [])
+unfolding answersBy
+answers-one cs c = answers-after cs (c ∷ [])
+
+-- from the new table on
+pub answers-are : (cs : List Call) → answers cs ≡ answersBy answerTo tableLeft cs newTable
+unfolding answers
+answers-are cs = refl
+
+pub table-is : (cs : List Call) → tableAfter cs ≡ leftBy tableLeft cs newTable
+unfolding tableAfter
+table-is cs = refl
 
 -- what holds of a call's answer and of the table that it leaves
 abbrev pub Ends : (Answer → Table → Type 0) → Table → Outcome → Type 0

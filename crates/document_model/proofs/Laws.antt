@@ -1,9 +1,9 @@
 -- The laws of the model that the crates above cite: these, those that the `pub use` lines pass on, `RowByRow` and `Parts`. Assumes nothing.
 
 -- the induction over two runs
-pub use Rattle.document_model.proofs.TwoRuns.{Follow, two-runs, two-tables, left-append, answers-append}
+pub use Rattle.document_model.proofs.TwoRuns.{Follow, two-runs, two-tables, left-append, answers-append, answers-end, answers-next, left-end, left-next}
 -- what each call does; that a refused one, and a question of any kind, leaves the table as it was; that further calls go on from the table that the calls before them left; an induction over the history of calls; after any calls each document is what its load call, found among the calls, makes of its container
-pub use Rattle.document_model.proofs.Effects.{Effect, nothing-else, top-loaded, frame-loaded, all-removed, effect, refused-keeps, asked-keeps, table-append, table-one, table-none, answers-after, history-induction, Made, made-top, made-framed, made}
+pub use Rattle.document_model.proofs.Effects.{Effect, nothing-else, top-loaded, frame-loaded, all-removed, effect, refused-keeps, asked-keeps, table-append, table-one, table-none, answers-after, answers-one, answers-are, table-is, history-induction, Made, made-top, made-framed, made}
 -- the answer at a call's place, and the history, read from the answers; told these alone, the model is the model
 pub use Rattle.document_model.proofs.Answering.{answer-at, history-is, by-answers}
 -- what holds of every table that calls leave

@@ -32,3 +32,21 @@ pub answers-append : {C S A : Type 0} (answer : C → S → A) (left : C → S �
 unfolding answersBy leftBy
 answers-append answer left [] ds s = refl
 answers-append answer left (c ∷ cs) ds s = ap (λ (l : List _). answer c s ∷ l) (answers-append answer left cs ds (left c s))
+
+-- a list of calls: none, or one and further ones
+module _ {C S A : Type 0} (answer : C → S → A) (left : C → S → S) (s : S) where
+  pub answers-end : answersBy answer left [] s ≡ []
+  unfolding answersBy
+  answers-end = refl
+
+  pub answers-next : (c : C) (cs : List C) → answersBy answer left (c ∷ cs) s ≡ answer c s ∷ answersBy answer left cs (left c s)
+  unfolding answersBy
+  answers-next c cs = refl
+
+  pub left-end : leftBy left [] s ≡ s
+  unfolding leftBy
+  left-end = refl
+
+  pub left-next : (c : C) (cs : List C) → leftBy left (c ∷ cs) s ≡ leftBy left cs (left c s)
+  unfolding leftBy
+  left-next c cs = refl

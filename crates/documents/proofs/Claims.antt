@@ -3,12 +3,11 @@ use mathlib.Core.Path.{_≡_, refl, ap, sym, subst, _∙_}
 use mathlib.Core.List.{List, [], _∷_, _++_}
 use lib.ListN.{length}
 use Rattle.ascii.proofs.Clash.{clash}
-use Rattle.document_model.specs.Runs.{answersBy}
 use Rattle.document_model.specs.Model.{Call, question, Answer, answerTo, tableAfter, answers}
 use Rattle.document_model.specs.History.{Event, LoadedIn, BeneathIn, history}
 use Rattle.document_model.specs.Answering.{eventsOf, answerAt, byAnswers}
 use Rattle.document_model.specs.Claims.{DisabledFlowsDown, MoreNeverTakesAway, SerialsAndCounts, ForecastComesTrue, RefusalsExactly, SettledAtLoad, AnswersAsDefined}
-use Rattle.document_model.proofs.Laws.{answers-after, answer-at, history-is}
+use Rattle.document_model.proofs.Laws.{answers-one, answer-at, history-is}
 use Rattle.document_model.proofs.Claims as model
 use Rattle.documents.specs.Runs.{Run, FlowsDownInRuns, MoreInRuns, AnsweredByCode}
 use Rattle.documents.proofs.Runs.{run-answers, code-is-model}
@@ -29,8 +28,7 @@ snoc-same (a ∷ l) (b ∷ m) x y e =
 
 -- a run's last answer, and those before it
 run-last : (cs : List Call) (c : Call) (l : List Answer) (a : Answer) → Run (cs ++ (c ∷ [])) (l ++ (a ∷ [])) → (l ≡ answers cs) × (a ≡ answerTo c (tableAfter cs))
-unfolding answersBy
-run-last cs c l a r = snoc-same l (answers cs) a (answerTo c (tableAfter cs)) (run-answers r ∙ answers-after cs (c ∷ []))
+run-last cs c l a r = snoc-same l (answers cs) a (answerTo c (tableAfter cs)) (run-answers r ∙ answers-one cs c)
 
 pub flows-down-in-runs : FlowsDownInRuns
 flows-down-in-runs cs ds d e f o l k b first second loaded beneath good =

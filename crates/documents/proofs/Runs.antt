@@ -6,7 +6,7 @@ use Rattle.ascii.proofs.Clash.{clash}
 use Rattle.document_model.specs.Runs.{leftBy, answersBy}
 use Rattle.document_model.specs.Model.{Call, question, enabledFeatures, listing, forecastOf, Answer, runAfter, answerTo, tableLeft, tableAfter, answers}
 use Rattle.document_model.specs.Answering.{theModel, byAnswers}
-use Rattle.document_model.proofs.Laws.{by-answers, asked-keeps}
+use Rattle.document_model.proofs.Laws.{by-answers, asked-keeps, answers-end, answers-next, left-end, left-next, answers-are, table-is}
 use Rattle.document_table.specs.declared.Table.{Table}
 use Rattle.document_table.specs.Tables.{view}
 use Rattle.documents.specs.declared.QuestionAnswer.{QuestionAnswer}
@@ -85,16 +85,15 @@ step-run (forecasts r h) = features-run r
 -- calls one after the other
 module _ where
   steps-answers : {cs : List Call} {t v : Table} {l : List Answer} {runs : List (List ℕ)} → Steps cs t l runs v → l ≡ answersBy answerTo tableLeft cs (view t)
-  unfolding answersBy
-  steps-answers no-more = refl
+  steps-answers (no-more {t}) = sym (answers-end answerTo tableLeft (view t))
   steps-answers (then {c} {cs} {t} {u} {a = a} {l = l} s ss) =
       ap (λ (x : Answer). x ∷ l) (step-answer s)
       ∙ ap (λ (m : List Answer). answerTo c (view t) ∷ m) (steps-answers ss ∙ ap (answersBy answerTo tableLeft cs) (step-table s))
+      ∙ sym (answers-next answerTo tableLeft (view t) c cs)
 
   steps-left : {cs : List Call} {t v : Table} {l : List Answer} {runs : List (List ℕ)} → Steps cs t l runs v → view v ≡ leftBy tableLeft cs (view t)
-  unfolding leftBy
-  steps-left no-more = refl
-  steps-left (then {c} {cs} s ss) = steps-left ss ∙ ap (leftBy tableLeft cs) (step-table s)
+  steps-left (no-more {t}) = sym (left-end answerTo tableLeft (view t))
+  steps-left (then {c} {cs} {t} s ss) = steps-left ss ∙ ap (leftBy tableLeft cs) (step-table s) ∙ sym (left-next answerTo tableLeft (view t) c cs)
 
   steps-runs : {cs : List Call} {t v : Table} {l : List Answer} {runs : List (List ℕ)} → Steps cs t l runs v → runs ≡ runsAfter cs l
   unfolding runsAfter
@@ -109,12 +108,10 @@ module _ where
 
 module _ {cs : List Call} {l : List Answer} (r : Run cs l) where
   pub run-answers : l ≡ answers cs
-  unfolding answers
-  run-answers = steps-answers (r .steps) ∙ ap (answersBy answerTo tableLeft cs) (r .new .1)
+  run-answers = steps-answers (r .steps) ∙ ap (answersBy answerTo tableLeft cs) (r .new .1) ∙ sym (answers-are cs)
 
   pub run-table : view (r .left) ≡ tableAfter cs
-  unfolding tableAfter
-  run-table = steps-left (r .steps) ∙ ap (leftBy tableLeft cs) (r .new .1)
+  run-table = steps-left (r .steps) ∙ ap (leftBy tableLeft cs) (r .new .1) ∙ sym (table-is cs)
 
   pub run-runs : r .runs ≡ runsAfter cs (answers cs)
   run-runs = steps-runs (r .steps) ∙ ap (runsAfter cs) run-answers
