@@ -94,7 +94,7 @@ fn take_piece(
     cur
 }
 
-// The session, in at most 2^64 - 1 reads.
+// The session, in at most 2^64 - 1 reads. Where a read fails, the line that had begun is dropped.
 pub fn run() {
     let mut input = io::buffer();
     let mut texts = [0u8; LINE_BYTES];
@@ -113,6 +113,7 @@ pub fn run() {
         let got = libc::read(STDIN, &mut input);
         if got < 0 {
             io::write_all(STDERR, b"replay: standard input can't be read\n");
+            s.begun = false;
             left = 0;
         } else {
             let n = io::count(got, &input);
