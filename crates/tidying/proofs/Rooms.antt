@@ -28,6 +28,11 @@ pub answer-room : (s : List ℕ) (room : ℕ) → tidyAnswer s (min room textByt
 unfolding tidyAnswer
 answer-room s room = ap (λ (x : Answer). pick (ltb textBytes (length s)) (refusal 4) (pick (isMalformed s) (refusal 8) x)) (same-room (length (tidied s)) room (ltb textBytes (length (tidied s))) refl)
 
+-- 4 for the input, for a run of any length
+pub answer-long : (s : List ℕ) (room : ℕ) → textBytes < length s → tidyAnswer s room ≡ refusal 4
+unfolding tidyAnswer pick
+answer-long s room h = rw (lt-ltb textBytes (length s) h)
+
 -- an accepted form's length is the answer
 is-length : (a b c d : Bool) (m n : ℕ) → lengthIs n ≡ pick a (refusal 4) (pick b (refusal 8) (pick c (refusal 4) (pick d (refusal 9) (lengthIs m)))) → n ≡ m
 unfolding pick
