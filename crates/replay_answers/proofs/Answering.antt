@@ -5,8 +5,8 @@ use mathlib.Core.Bool.{Bool, true, false}
 use mathlib.Core.List.{List, [], _∷_, _++_, append-assoc, append-nil}
 use native.Mathlib.Omega.{arith}
 use native.Mathlib.Numerals.{add-one}
-use lib.Dec.{leb}
-use borrow.Author.Tests.{le-leb, lt-leb, leb-true, leb-false}
+use lib.Dec.{ltb}
+use borrow.Author.Tests.{le-ltb, lt-ltb, ltb-true, ltb-false}
 use lib.ListN.{length, getD, take, length-take}
 use lib.Seq.{take-all, take-suc}
 use Rattle.limits.specs.Limits.{textBytes, documentLimit}
@@ -146,15 +146,15 @@ module _ (l m k : List ℕ) (at o r n : ℕ) (a : TidyAnswer) (e : a ≡ tidy.Le
 
 -- the test for room: the code subtracts
 module _ (n at k : ℕ) where
-  pub room-none : n < at → false ≡ leb (at + k) n
-  room-none h = sym (lt-leb (at + k) n (omega arith))
+  pub room-none : n < at → false ≡ ltb (at + k) n
+  room-none h = sym (le-ltb (at + k) n (omega arith))
 
-  pub room-left : at ≤ n → leb k (n - at) ≡ leb (at + k) n
-  room-left h = go (leb k (n - at)) refl
+  pub room-left : at ≤ n → ltb k (n - at) ≡ ltb (at + k) n
+  room-left h = go (ltb k (n - at)) refl
     where
-      go : (b : Bool) → leb k (n - at) ≡ b → b ≡ leb (at + k) n
-      go true e = sym (le-leb (at + k) n (omega (arith, leb-true k (n - at) e)))
-      go false e = sym (lt-leb (at + k) n (omega (arith, leb-false k (n - at) e)))
+      go : (b : Bool) → ltb k (n - at) ≡ b → b ≡ ltb (at + k) n
+      go true e = sym (lt-ltb (at + k) n (omega (arith, ltb-true k (n - at) e)))
+      go false e = sym (le-ltb (at + k) n (omega (arith, ltb-false k (n - at) e)))
 
 pub ruleset loads = (load-refused, load-good, load-malformed)
 

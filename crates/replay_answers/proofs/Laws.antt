@@ -5,8 +5,8 @@ use mathlib.Core.Bool.{true, false}
 use mathlib.Core.List.{List, [], _∷_, _++_}
 use native.Mathlib.Omega.{arith}
 use lib.ListN.{length, take, drop, getD, length-append, length-take}
-use lib.Dec.{leb}
-use borrow.Author.Tests.{leb-true}
+use lib.Dec.{ltb}
+use borrow.Author.Tests.{ltb-true}
 use Rattle.limits.specs.Limits.{textBytes, documentLimit}
 use Rattle.limits.specs.Refusals.{refusalNumber}
 use Rattle.limits.specs.declared.Refusal.{Refusal}
@@ -76,9 +76,9 @@ pub says-of : (limit : ℕ) (run l m : List ℕ) (at r : ℕ) (t : List ℕ) →
 says-of limit run l m at r t p h = record { puts = p .puts; short = p .short h }
 
 -- where any answer has room, the whole text stands there, and the answer is the place after it
-module _ (l m : List ℕ) (at r : ℕ) (t : List ℕ) (p : Says l at t m r) (h : leb (at + answerBytes) (length l) ≡ true) where
+module _ (l m : List ℕ) (at r : ℕ) (t : List ℕ) (p : Says l at t m r) (h : ltb (at + answerBytes) (length l) ≡ true) where
   room : at + length t ≤ length l
-  room = omega (arith, p .short, leb-true (at + answerBytes) (length l) h)
+  room = omega (arith, p .short, ltb-true (at + answerBytes) (length l) h)
 
   pub says-whole : m ≡ take at l ++ t ++ drop (at + length t) l
   says-whole = puts-whole l m at r t (p .puts) room

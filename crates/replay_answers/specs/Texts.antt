@@ -58,7 +58,7 @@ tidyText (tidy.Refused n) run = refusedText (refusalNumber n)
 abbrev pub badLineText : Text
 badLineText = text "bad line"
 
--- the longest answer's length, a tidied form's
+-- the longest answer's length, a tidied form's, without its line feed
 abbrev pub answerBytes : ℕ
 answerBytes = 7 + textBytes
 

@@ -2,7 +2,7 @@
 ghost use mathlib.Core.Path.{_≡_};
 ghost use Prim.Native.Nat.{_+_};
 ghost use lib.ListN.{length};
-ghost use lib.Dec.{leb};
+ghost use lib.Dec.{ltb};
 ghost use Rattle.limits.specs.Limits.{textBytes, documentLimit};
 ghost use Rattle.limits.specs.Refusals.{refusalNumber};
 ghost use Rattle.documents.specs.Answers.{loadIn, unloadIn, questionIn, featuresIn, listingIn};
@@ -17,17 +17,17 @@ use limits::Refusal;
 use limits::TEXT_BYTES;
 use tidying::TidyAnswer;
 
-// The length of the longest answer, `tidied ` and a tidied form.
+// The length of the longest answer, `tidied ` and a tidied form, without its line feed.
 pub const ANSWER_BYTES: usize = 7 + TEXT_BYTES;
 
-// Whether any answer has room from a place on.
+// Whether any answer and its line feed have room from a place on.
 pub fn has_room(run: &[u8], at: usize) -> bool
-    ensures { λ r. ⌜ r ≡ leb (at + answerBytes) (length (now (run .entry))) ⌝ }
+    ensures { λ r. ⌜ r ≡ ltb (at + answerBytes) (length (now (run .entry))) ⌝ }
 {
     if run.len() < at {
         return false;
     }
-    ANSWER_BYTES <= run.len() - at
+    ANSWER_BYTES < run.len() - at
 }
 
 // Puts words and a number.

@@ -5,9 +5,10 @@ use mathlib.Core.List.{List}
 use native.Mathlib.Omega.{arith}
 use lib.ListN.{length, take, replicate}
 use lib.Seq.{length-take-le}
+use Prim.Native.Nat.{_≤_}
+use Rattle.limits.specs.Limits.{documentLimit, textBytes}
 use Rattle.ascii.specs.Texts.{partIn}
 use Rattle.ascii.specs.declared.TextRange.{TextRange}
-use Rattle.writing.specs.Writing.{Puts}
 use Rattle.containers.specs.Attributes.{Attributes}
 use Rattle.tidying.specs.Tidied.{tidied}
 use Rattle.tidying.specs.Answers.{Answer as TidyOutcome, tidyAnswer, IsTidied}
@@ -42,15 +43,15 @@ use Rattle.replay_session.proofs.Rooms.{room-listed, tidy-shown}
 
 module _ (before after : List ℕ) (at to : ℕ) where
   -- an answer that is the model's
-  pub says-is : (y x : Answer) → y ≡ x → Says before at (answerText y) after to → Puts before at (answerText x) after to
-  says-is y x e h = subst (λ (z : Answer). Puts before at (answerText z) after to) e (h .puts)
+  pub says-is : (y x : Answer) → y ≡ x → Says before at (answerText y) after to → Says before at (answerText x) after to
+  says-is y x e h = subst (λ (z : Answer). Says before at (answerText z) after to) e h
 
   -- calls that change the table
   pub makes-load : (c : Call) (t : Table) (r : Loading) → Loads c t r → Says before at (answerText (loadIn (r .answer))) after to → Makes c t before at after (record { table = r .table; to = to })
-  makes-load c t r h s = record { valid = h .valid; table = h .table; puts = says-is (loadIn (r .answer)) (answerTo c (view t)) (h .answer) s }
+  makes-load c t r h s = record { valid = h .valid; table = h .table; says = says-is (loadIn (r .answer)) (answerTo c (view t)) (h .answer) s }
 
   pub makes-unload : (c : Call) (t : Table) (r : Unloading) → Unloads c t r → Says before at (answerText (unloadIn (r .answer))) after to → Makes c t before at after (record { table = r .table; to = to })
-  makes-unload c t r h s = record { valid = h .valid; table = h .table; puts = says-is (unloadIn (r .answer)) (answerTo c (view t)) (h .answer) s }
+  makes-unload c t r h s = record { valid = h .valid; table = h .table; says = says-is (unloadIn (r .answer)) (answerTo c (view t)) (h .answer) s }
 
   -- with texts of the line
   pub makes-top : (texts : List ℕ) (l : TopLine) (t : Table) (h o : Text) (r : Loading) → h ≡ partIn texts (l .header) → o ≡ partIn texts (l .origin) → Loads (topLoad h o) t r → Says before at (answerText (loadIn (r .answer))) after to
@@ -58,7 +59,7 @@ module _ (before after : List ℕ) (at to : ℕ) where
   makes-top texts l t h o r e f loads s = rw (← e, ← f) (makes-load (topLoad h o) t r loads s)
 
   pub asked-line : (texts : List ℕ) (l : AskLine) (t : Table) (o : Text) (y : Answer) → o ≡ partIn texts (l .origin) → y ≡ answerTo (question (l .serial) (l .feature) o) (view t) → Says before at (answerText y) after to
-      → Puts before at (answerText (answerTo (question (l .serial) (l .feature) (partIn texts (l .origin))) (view t))) after to
+      → Says before at (answerText (answerTo (question (l .serial) (l .feature) (partIn texts (l .origin))) (view t))) after to
   asked-line texts l t o y e f s = rw (← e) (says-is y (answerTo (question (l .serial) (l .feature) o) (view t)) f s)
 
   frame-attributes : (texts : List ℕ) (f : AttributeRanges) (src allow sandbox : Text) (m : FrameMarks) → src ≡ partIn texts (f .src) → m ≡ marksIn f → allow ≡ partIn texts (f .allow) → sandbox ≡ partIn texts (f .sandbox .text)
@@ -73,63 +74,63 @@ module _ (before after : List ℕ) (at to : ℕ) where
 
   pub forecast-is : (texts : List ℕ) (l : ForecastLine) (t : Table) (src allow sandbox : Text) (m : FrameMarks)
       → src ≡ partIn texts (l .attributes .src) → m ≡ marksIn (l .attributes) → allow ≡ partIn texts (l .attributes .allow) → sandbox ≡ partIn texts (l .attributes .sandbox .text)
-      → Puts before at (answerText (answerTo (forecastOf (l .container) (attributes allow m sandbox src)) (view t))) after to
-      → Puts before at (answerText (answerTo (forecastOf (l .container) (attributesIn texts (l .attributes))) (view t))) after to
+      → Says before at (answerText (answerTo (forecastOf (l .container) (attributes allow m sandbox src)) (view t))) after to
+      → Says before at (answerText (answerTo (forecastOf (l .container) (attributesIn texts (l .attributes))) (view t))) after to
   forecast-is texts l t src allow sandbox m b c d e p = rw (← frame-attributes texts (l .attributes) src allow sandbox m b c d e) p
 
   -- outputs into a lent run
-  pub listed-is : (s : ℕ) (t : Table) (run run′ : List ℕ) (a : ListingAnswer) (limit : ℕ) → Lists (listing s run) t run run′ a → SaysOf limit run′ before at (answerText (listingIn a run′)) after to → Puts before at (answerText (answerTo (listing s run) (view t))) after to
-  listed-is s t run run′ a limit h p = subst (λ (z : Answer). Puts before at (answerText z) after to) (h .answer) (p .puts)
+  pub listed-is : (s : ℕ) (t : Table) (run run′ : List ℕ) (a : ListingAnswer) → Lists (listing s run) t run run′ a → length run ≤ documentLimit → length run′ ≡ length run → SaysOf documentLimit run′ before at (answerText (listingIn a run′)) after to → Says before at (answerText (answerTo (listing s run) (view t))) after to
+  listed-is s t run run′ a h le e p = says-is (listingIn a run′) (answerTo (listing s run) (view t)) (h .answer) (record { puts = p .puts; short = p .short (omega arith) })
 
-  pub beneath-is : (t : Table) (s room n : ℕ) → Valid t → n ≡ min room 16 → Puts before at (answerText (answerTo (listing s (take n (replicate 16 0))) (view t))) after to → Puts before at (lineAnswer (beneath s room) (view t)) after to
+  pub beneath-is : (t : Table) (s room n : ℕ) → Valid t → n ≡ min room 16 → Says before at (answerText (answerTo (listing s (take n (replicate 16 0))) (view t))) after to → Says before at (lineAnswer (beneath s room) (view t)) after to
   unfolding lineAnswer
-  beneath-is t s room n valid e p = subst (λ (x : List ℕ). Puts before at x after to) (room-listed t s room n valid e) p
+  beneath-is t s room n valid e p = subst (λ (x : List ℕ). Says before at x after to) (room-listed t s room n valid e) p
 
-  pub tidied-is : (s run run′ : List ℕ) (a : TidyAnswer) (limit : ℕ) → IsTidied s run run′ a → SaysOf limit run′ before at (tidyText a run′) after to → Puts before at (tidyLineText (tidyAnswer s (length run)) (tidied s)) after to
-  tidied-is s run run′ a limit h p = subst (λ (x : List ℕ). Puts before at x after to) (tidy-shown s run run′ a h) (p .puts)
+  pub tidied-is : (s run run′ : List ℕ) (a : TidyAnswer) → IsTidied s run run′ a → length run ≤ textBytes → length run′ ≡ length run → SaysOf textBytes run′ before at (tidyText a run′) after to → Says before at (tidyLineText (tidyAnswer s (length run)) (tidied s)) after to
+  tidied-is s run run′ a h le e p = subst (λ (x : List ℕ). Says before at x after to) (tidy-shown s run run′ a h) (record { puts = p .puts; short = p .short (omega arith) })
 
-  pub tidy-is : (texts : List ℕ) (l : TidyLine) (h : List ℕ) (n : ℕ) → h ≡ partIn texts (l .header) → n ≡ min (l .room) 1024 → Puts before at (tidyLineText (tidyAnswer h (length (take {A = ℕ} n (replicate 1024 0)))) (tidied h)) after to
-      → Puts before at (tidyLineText (tidyAnswer (partIn texts (l .header)) (l .room)) (tidied (partIn texts (l .header)))) after to
+  pub tidy-is : (texts : List ℕ) (l : TidyLine) (h : List ℕ) (n : ℕ) → h ≡ partIn texts (l .header) → n ≡ min (l .room) 1024 → Says before at (tidyLineText (tidyAnswer h (length (take {A = ℕ} n (replicate 1024 0)))) (tidied h)) after to
+      → Says before at (tidyLineText (tidyAnswer (partIn texts (l .header)) (l .room)) (tidied (partIn texts (l .header)))) after to
   tidy-is texts l h n e f p =
       let long : length {A = ℕ} (take n (replicate 1024 0)) ≡ n = length-take-le n (replicate 1024 0) (omega arith) in
-      rw (← e) (subst (λ (x : TidyOutcome). Puts before at (tidyLineText x (tidied h)) after to) (ap (tidyAnswer h) (long ∙ f) ∙ answer-room h (l .room)) p)
+      rw (← e) (subst (λ (x : TidyOutcome). Says before at (tidyLineText x (tidied h)) after to) (ap (tidyAnswer h) (long ∙ f) ∙ answer-room h (l .room)) p)
 
 -- ---- lines
 
 module _ (texts : List ℕ) (line : LineRead) (t : Table) (before after : List ℕ) (at : ℕ) where
   pub answers-top : (l : TopLine) (r : Answered) → line ≡ read.Top l → Makes (topLoad (partIn texts (l .header)) (partIn texts (l .origin))) t before at after r → Answers (lineIn texts line) t before at after r
   unfolding lineAnswer lineTable
-  answers-top l r e m = rw e (record { valid = m .valid; table = m .table; puts = m .puts })
+  answers-top l r e m = rw e (record { valid = m .valid; table = m .table; says = m .says })
 
   pub answers-frame : (l : FrameLine) (r : Answered) → line ≡ read.Frame l → Makes (framedLoad (l .container) (partIn texts (l .header)) (partIn texts (l .origin)) (attributesIn texts (l .attributes))) t before at after r → Answers (lineIn texts line) t before at after r
   unfolding lineAnswer lineTable
-  answers-frame l r e m = rw e (record { valid = m .valid; table = m .table; puts = m .puts })
+  answers-frame l r e m = rw e (record { valid = m .valid; table = m .table; says = m .says })
 
   pub answers-unload : (s : ℕ) (r : Answered) → line ≡ read.Unload s → Makes (unload s) t before at after r → Answers (lineIn texts line) t before at after r
   unfolding lineAnswer lineTable
-  answers-unload s r e m = rw e (record { valid = m .valid; table = m .table; puts = m .puts })
+  answers-unload s r e m = rw e (record { valid = m .valid; table = m .table; says = m .says })
 
   module _ (to : ℕ) (valid : Valid t) where
-    pub answers-ask : (l : AskLine) → line ≡ read.Ask l → Puts before at (answerText (answerTo (question (l .serial) (l .feature) (partIn texts (l .origin))) (view t))) after to → Answers (lineIn texts line) t before at after (record { table = t; to = to })
+    pub answers-ask : (l : AskLine) → line ≡ read.Ask l → Says before at (answerText (answerTo (question (l .serial) (l .feature) (partIn texts (l .origin))) (view t))) after to → Answers (lineIn texts line) t before at after (record { table = t; to = to })
     unfolding lineAnswer lineTable
-    answers-ask l e p = rw e (record { valid = valid; table = refl; puts = p })
+    answers-ask l e p = rw e (record { valid = valid; table = refl; says = p })
 
-    pub answers-enabled : (s : ℕ) → line ≡ read.Enabled s → Puts before at (answerText (answerTo (enabledFeatures s) (view t))) after to → Answers (lineIn texts line) t before at after (record { table = t; to = to })
+    pub answers-enabled : (s : ℕ) → line ≡ read.Enabled s → Says before at (answerText (answerTo (enabledFeatures s) (view t))) after to → Answers (lineIn texts line) t before at after (record { table = t; to = to })
     unfolding lineAnswer lineTable
-    answers-enabled s e p = rw e (record { valid = valid; table = refl; puts = p })
+    answers-enabled s e p = rw e (record { valid = valid; table = refl; says = p })
 
-    pub answers-beneath : (l : BeneathLine) → line ≡ read.Beneath l → Puts before at (lineAnswer (beneath (l .serial) (l .room)) (view t)) after to → Answers (lineIn texts line) t before at after (record { table = t; to = to })
+    pub answers-beneath : (l : BeneathLine) → line ≡ read.Beneath l → Says before at (lineAnswer (beneath (l .serial) (l .room)) (view t)) after to → Answers (lineIn texts line) t before at after (record { table = t; to = to })
     unfolding lineTable
-    answers-beneath l e p = rw e (record { valid = valid; table = refl; puts = p })
+    answers-beneath l e p = rw e (record { valid = valid; table = refl; says = p })
 
-    pub answers-forecast : (l : ForecastLine) → line ≡ read.Forecast l → Puts before at (answerText (answerTo (forecastOf (l .container) (attributesIn texts (l .attributes))) (view t))) after to → Answers (lineIn texts line) t before at after (record { table = t; to = to })
+    pub answers-forecast : (l : ForecastLine) → line ≡ read.Forecast l → Says before at (answerText (answerTo (forecastOf (l .container) (attributesIn texts (l .attributes))) (view t))) after to → Answers (lineIn texts line) t before at after (record { table = t; to = to })
     unfolding lineAnswer lineTable
-    answers-forecast l e p = rw e (record { valid = valid; table = refl; puts = p })
+    answers-forecast l e p = rw e (record { valid = valid; table = refl; says = p })
 
-    pub answers-tidy : (l : TidyLine) → line ≡ read.Tidy l → Puts before at (tidyLineText (tidyAnswer (partIn texts (l .header)) (l .room)) (tidied (partIn texts (l .header)))) after to → Answers (lineIn texts line) t before at after (record { table = t; to = to })
+    pub answers-tidy : (l : TidyLine) → line ≡ read.Tidy l → Says before at (tidyLineText (tidyAnswer (partIn texts (l .header)) (l .room)) (tidied (partIn texts (l .header)))) after to → Answers (lineIn texts line) t before at after (record { table = t; to = to })
     unfolding lineAnswer lineTable
-    answers-tidy l e p = rw e (record { valid = valid; table = refl; puts = p })
+    answers-tidy l e p = rw e (record { valid = valid; table = refl; says = p })
 
     pub answers-bad : line ≡ read.Bad → Says before at badLineText after to → Answers (lineIn texts line) t before at after (record { table = t; to = to })
     unfolding lineAnswer lineTable
-    answers-bad e s = rw e (record { valid = valid; table = refl; puts = s .puts })
+    answers-bad e s = rw e (record { valid = valid; table = refl; says = s })

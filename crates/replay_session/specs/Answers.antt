@@ -2,12 +2,12 @@
 use Prim.Native.Nat.{ℕ}
 use mathlib.Core.Path.{_≡_}
 use mathlib.Core.List.{List}
-use Rattle.writing.specs.Writing.{Puts}
 use Rattle.document_table.specs.declared.Table.{Table}
 use Rattle.document_table.specs.Tables.{view}
 use Rattle.documents.specs.Answers.{Valid}
 use Rattle.document_model.specs.Model.{Text, Call, answerTo, tableLeft}
 use Rattle.replay_answers.specs.Texts.{answerText}
+use Rattle.replay_answers.specs.Promises.{Says}
 use Rattle.replay_lines.specs.Format.{Line}
 use Rattle.document_loads.specs.declared.FrameMarks.{FrameMarks}
 use Rattle.replay_lines.specs.declared.AttributeRanges.{AttributeRanges}
@@ -22,10 +22,10 @@ marksIn a = record { allowfullscreen = a .fullscreen; «has_sandbox» = a .sandb
 pub record Makes (c : Call) (t : Table) (before : List ℕ) (at : ℕ) (after : List ℕ) (r : Answered) : Type 0 where
   pub valid : Valid (r .table)
   pub table : view (r .table) ≡ tableLeft c (view t)
-  pub puts : Puts before at (answerText (answerTo c (view t))) after (r .to)
+  pub says : Says before at (answerText (answerTo c (view t))) after (r .to)
 
 -- a line's answer put at a place, and the table that it leaves
 pub record Answers (l : Line) (t : Table) (before : List ℕ) (at : ℕ) (after : List ℕ) (r : Answered) : Type 0 where
   pub valid : Valid (r .table)
   pub table : view (r .table) ≡ lineTable l (view t)
-  pub puts : Puts before at (lineAnswer l (view t)) after (r .to)
+  pub says : Says before at (lineAnswer l (view t)) after (r .to)

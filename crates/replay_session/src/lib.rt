@@ -9,8 +9,9 @@ ghost use Rattle.document_model.specs.Model.{topLoad, framedLoad, unload, quest
 ghost use Rattle.document_loads.specs.Loads.{attributes};
 ghost use Rattle.document_table.specs.Tables.{view};
 ghost use Rattle.documents.specs.Answers.{Valid};
-ghost use Rattle.writing.specs.Writing.{Puts};
 ghost use Rattle.replay_answers.specs.Texts.{answerText};
+ghost use Rattle.replay_answers.specs.Promises.{Says};
+ghost use Rattle.limits.specs.Limits.{documentLimit, textBytes};
 ghost use Rattle.replay_lines.specs.Format.Line.{beneath};
 ghost use Rattle.replay_lines.specs.Answers.{attributesIn, lineIn};
 ghost use Rattle.replay_session.specs.Session.{tidyLineText, lineAnswer};
@@ -128,7 +129,7 @@ fn unload_line(t: Table, serial: u32, out: &mut [u8], at: usize) -> Answered
 
 fn ask_line(t: Table, l: AskLine, texts: &[u8], out: &mut [u8], at: usize) -> usize
     requires { ⌜ Valid t ⌝ }
-    ensures { λ r. ⌜ Puts (now (out .entry)) at (answerText (answerTo (question (l .serial) (l .feature) (partIn (now (texts .entry)) (l .origin))) (view t))) (now (out .exit)) r ⌝ }
+    ensures { λ r. ⌜ Says (now (out .entry)) at (answerText (answerTo (question (l .serial) (l .feature) (partIn (now (texts .entry)) (l .origin))) (view t))) (now (out .exit)) r ⌝ }
 {
     let a = documents::question(t, l.serial, l.feature, text(texts, l.origin));
     replay_answers::put_question(out, at, a)
@@ -136,7 +137,7 @@ fn ask_line(t: Table, l: AskLine, texts: &[u8], out: &mut [u8], at: usize) -> us
 
 fn enabled_line(t: Table, serial: u32, out: &mut [u8], at: usize) -> usize
     requires { ⌜ Valid t ⌝ }
-    ensures { λ r. ⌜ Puts (now (out .entry)) at (answerText (answerTo (enabledFeatures serial) (view t))) (now (out .exit)) r ⌝ }
+    ensures { λ r. ⌜ Says (now (out .entry)) at (answerText (answerTo (enabledFeatures serial) (view t))) (now (out .exit)) r ⌝ }
 {
     let a = documents::enabled_features(t, serial);
     replay_answers::put_features(out, at, a)
@@ -144,8 +145,8 @@ fn enabled_line(t: Table, serial: u32, out: &mut [u8], at: usize) -> usize
 
 // A listing into lent places.
 fn list_into(t: Table, serial: u32, places: &mut [u32], out: &mut [u8], at: usize) -> usize
-    requires { ⌜ Valid t ⌝ }
-    ensures { λ r. ⌜ Puts (now (out .entry)) at (answerText (answerTo (listing serial (now (places .entry))) (view t))) (now (out .exit)) r ⌝ }
+    requires { ⌜ Valid t × (length (now places) ≤ documentLimit) ⌝ }
+    ensures { λ r. ⌜ Says (now (out .entry)) at (answerText (answerTo (listing serial (now (places .entry))) (view t))) (now (out .exit)) r ⌝ }
 {
     let a = documents::list_beneath(t, serial, places);
     replay_answers::put_listing(out, at, a, places)
@@ -154,7 +155,7 @@ fn list_into(t: Table, serial: u32, places: &mut [u32], out: &mut [u8], at: usiz
 // A listing into ROOM places, or as many as there are documents.
 fn beneath_line(t: Table, l: BeneathLine, out: &mut [u8], at: usize) -> usize
     requires { ⌜ Valid t ⌝ }
-    ensures { λ r. ⌜ Puts (now (out .entry)) at (lineAnswer (beneath (l .serial) (l .room)) (view t)) (now (out .exit)) r ⌝ }
+    ensures { λ r. ⌜ Says (now (out .entry)) at (lineAnswer (beneath (l .serial) (l .room)) (view t)) (now (out .exit)) r ⌝ }
 {
     let mut places = [0u32; DOCUMENTS];
     let n = least(l.room as usize, DOCUMENTS);
@@ -173,7 +174,7 @@ fn forecast_put(
     at: usize,
 ) -> usize
     requires { ⌜ Valid t ⌝ }
-    ensures { λ r. ⌜ Puts (now (out .entry)) at (answerText (answerTo (forecastOf container (attributes (now (allow .entry)) marks (now (sandbox .entry)) (now (src .entry)))) (view t))) (now (out .exit)) r ⌝ }
+    ensures { λ r. ⌜ Says (now (out .entry)) at (answerText (answerTo (forecastOf container (attributes (now (allow .entry)) marks (now (sandbox .entry)) (now (src .entry)))) (view t))) (now (out .exit)) r ⌝ }
 {
     let a = documents::forecast(t, container, src, marks, allow, sandbox);
     replay_answers::put_features(out, at, a)
@@ -181,7 +182,7 @@ fn forecast_put(
 
 fn forecast_line(t: Table, l: ForecastLine, texts: &[u8], out: &mut [u8], at: usize) -> usize
     requires { ⌜ Valid t ⌝ }
-    ensures { λ r. ⌜ Puts (now (out .entry)) at (answerText (answerTo (forecastOf (l .container) (attributesIn (now (texts .entry)) (l .attributes))) (view t))) (now (out .exit)) r ⌝ }
+    ensures { λ r. ⌜ Says (now (out .entry)) at (answerText (answerTo (forecastOf (l .container) (attributesIn (now (texts .entry)) (l .attributes))) (view t))) (now (out .exit)) r ⌝ }
 {
     let f = l.attributes;
     forecast_put(
@@ -198,7 +199,8 @@ fn forecast_line(t: Table, l: ForecastLine, texts: &[u8], out: &mut [u8], at: us
 
 // A tidied form in a lent run.
 fn tidy_into(header: &[u8], form: &mut [u8], out: &mut [u8], at: usize) -> usize
-    ensures { λ r. ⌜ Puts (now (out .entry)) at (tidyLineText (tidyAnswer (now (header .entry)) (length (now (form .entry)))) (tidied (now (header .entry)))) (now (out .exit)) r ⌝ }
+    requires { ⌜ length (now form) ≤ textBytes ⌝ }
+    ensures { λ r. ⌜ Says (now (out .entry)) at (tidyLineText (tidyAnswer (now (header .entry)) (length (now (form .entry)))) (tidied (now (header .entry)))) (now (out .exit)) r ⌝ }
 {
     let a = tidying::tidy(header, form);
     replay_answers::put_tidied(out, at, a, form)
@@ -206,7 +208,7 @@ fn tidy_into(header: &[u8], form: &mut [u8], out: &mut [u8], at: usize) -> usize
 
 // A tidied form in ROOM bytes, or as many as the limit allows.
 fn tidy_line(l: TidyLine, texts: &[u8], out: &mut [u8], at: usize) -> usize
-    ensures { λ r. ⌜ Puts (now (out .entry)) at (tidyLineText (tidyAnswer (partIn (now (texts .entry)) (l .header)) (l .room)) (tidied (partIn (now (texts .entry)) (l .header)))) (now (out .exit)) r ⌝ }
+    ensures { λ r. ⌜ Says (now (out .entry)) at (tidyLineText (tidyAnswer (partIn (now (texts .entry)) (l .header)) (l .room)) (tidied (partIn (now (texts .entry)) (l .header)))) (now (out .exit)) r ⌝ }
 {
     let mut form = [0u8; TEXT_BYTES];
     let n = least(l.room as usize, TEXT_BYTES);

@@ -1,5 +1,6 @@
 // A replayed session: calls on one new table from standard input, a line each, and their answers on standard output.
-ghost use Rattle.documents.specs.Answers.{Valid};
+ghost use Prim.Native.Nat.{_≤_};
+ghost use Rattle.replaying.specs.Sessions.{outBytes, Ready};
 use ascii::Class;
 use document_table::Table;
 use replay_lines::LINE_BYTES;
@@ -24,7 +25,9 @@ struct Session {
 }
 
 // Writes the answers that wait; a failure is told once.
-fn flush(out: &[u8; OUT_BYTES], waiting: usize) -> bool {
+fn flush(out: &[u8; OUT_BYTES], waiting: usize) -> bool
+    requires { ⌜ waiting ≤ outBytes ⌝ }
+{
     if io::write_all(STDOUT, ascii::part(out, 0, waiting)) {
         return true;
     }
@@ -34,8 +37,8 @@ fn flush(out: &[u8; OUT_BYTES], waiting: usize) -> bool {
 
 // The line ends: its call is made, and its answer put behind those that wait; these are written where the next might not have room.
 fn end_line(s: Session, texts: &[u8; LINE_BYTES], out: &mut [u8; OUT_BYTES]) -> Session
-    requires { ⌜ Valid (s .table) ⌝ }
-    ensures { λ r. ⌜ Valid (r .table) ⌝ }
+    requires { ⌜ Ready s ⌝ }
+    ensures { λ r. ⌜ Ready r ⌝ }
 {
     let state = s.line;
     let t = s.table;
@@ -70,8 +73,8 @@ fn take_piece(
     texts: &mut [u8; LINE_BYTES],
     out: &mut [u8; OUT_BYTES],
 ) -> Session
-    requires { ⌜ Valid (s .table) ⌝ }
-    ensures { λ r. ⌜ Valid (r .table) ⌝ }
+    requires { ⌜ Ready s ⌝ }
+    ensures { λ r. ⌜ Ready r ⌝ }
 {
     let mut cur = s;
     let mut i: usize = 0;
@@ -92,6 +95,20 @@ fn take_piece(
         }
     }
     cur
+}
+
+// The input ends, and so does a line that has begun; the answers that wait are written.
+fn finish(s: Session, texts: &[u8; LINE_BYTES], out: &mut [u8; OUT_BYTES])
+    requires { ⌜ Ready s ⌝ }
+{
+    if s.begun {
+        let last = end_line(s, texts, out);
+        if !last.failed {
+            flush(out, last.waiting);
+        }
+    } else {
+        flush(out, s.waiting);
+    }
 }
 
 // The session, in at most 2^64 - 1 reads. Where a read fails, the line that had begun is dropped.
@@ -128,11 +145,5 @@ pub fn run() {
             }
         }
     }
-    if s.begun {
-        s = end_line(s, &texts, &mut out);
-        if s.failed {
-            return;
-        }
-    }
-    flush(&out, s.waiting);
+    finish(s, &texts, &mut out);
 }

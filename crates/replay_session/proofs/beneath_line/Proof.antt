@@ -1,6 +1,8 @@
 -- `beneath_line` is right: no listing needs more places than there are documents.
 use mathlib.Core.Path.{sym}
 use lib.ListN.{replicate}
+use Prim.Native.Nat.{ℕ}
+use native.Mathlib.Omega.{arith}
 use lib.Seq.{length-take-le}
 use Rattle.replay_session.proofs.Answering.{beneath-is}
 use borrow.Author.Needs.{needs}
@@ -15,6 +17,9 @@ beneath-line-spec =
     (λ c κs. search needs)
     (λ c. search needs)
     (λ c. sym (length-take-le (c .before .least .result) (replicate 16 0) (c .before .least .ensures .1)))
-    (λ c κs. search needs)
+    (λ c κs.
+    let n = c .before .before .least in
+    let long = length-take-le {A = ℕ} (n .result) (replicate 16 0) (n .ensures .1) in
+    (search needs, omega (arith, long, n .ensures .1)))
     (λ c. search needs)
     (λ c. search beneath-is))

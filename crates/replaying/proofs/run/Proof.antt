@@ -1,13 +1,13 @@
--- `run` is right: each read takes one from the reads that are left, and the table stays one that the calls left.
+-- `run` is right: each read takes one from the reads that are left, and between two lines the session is ready for the next.
 use mathlib.Core.Path.{_≡_}
 use lib.ListN.{length}
-use Rattle.documents.specs.Answers.{Valid}
+use Rattle.replaying.specs.Sessions.{Ready}
 use borrow.Author.Needs.{needs}
 use Rattle.replaying.proofs.run.Statement.{statement}
 use Rattle.replaying.proofs.run.Tie as tie
 
 abbrev Inv-loop : tie.InvT-loop
-Inv-loop input₀ texts₀ out₀ s₀ left₀ t10 input texts out s left = Valid (s .table) × (length input ≡ 4096)
+Inv-loop input₀ texts₀ out₀ s₀ left₀ t10 input texts out s left = Ready s × (length input ≡ 4096)
 
 abbrev μ-loop : tie.MeasureT-loop
 μ-loop input₀ texts₀ out₀ s₀ left₀ t10 input texts out s left = left
@@ -38,8 +38,6 @@ run-spec =
     (λ c. search needs)
     (λ c. search needs)
     (λ c. search needs)
-    (λ c. search needs)
-    (λ c κs. search needs)
     (λ c. search needs)
     (λ c κs. search needs)
     (λ c. search needs))

@@ -1,13 +1,13 @@
 -- `take_piece` is right: each turn goes past at least a byte, and the table stays one that the calls left.
 use Prim.Native.Nat.{_-_}
 use lib.ListN.{length}
-use Rattle.documents.specs.Answers.{Valid}
+use Rattle.replaying.specs.Sessions.{Ready}
 use borrow.Author.Needs.{needs}
 use Rattle.replaying.proofs.take_piece.Statement.{statement}
 use Rattle.replaying.proofs.take_piece.Tie as tie
 
 abbrev Inv-loop : tie.InvT-loop
-Inv-loop piece texts₀ out₀ cur₀ i₀ texts out cur i = Valid (cur .table)
+Inv-loop piece texts₀ out₀ cur₀ i₀ texts out cur i = Ready cur
 
 abbrev μ-loop : tie.MeasureT-loop
 μ-loop piece texts₀ out₀ cur₀ i₀ texts out cur i = length piece - i
