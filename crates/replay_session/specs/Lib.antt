@@ -1,2 +1,4 @@
 pub mod Session
 pub mod Answers
+pub mod Computing
+pub mod Examples
