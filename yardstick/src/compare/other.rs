@@ -41,9 +41,13 @@ impl Other {
             .split(|&b| b == b'\n')
             .map(<[u8]>::to_vec)
             .collect();
-        // What follows the last line feed must be nothing.
-        if lines.last().is_some_and(Vec::is_empty) {
-            lines.pop();
+        // What follows the last line feed must be nothing; answers without it are a difference.
+        match lines.pop() {
+            Some(rest) if !rest.is_empty() => {
+                lines.push(rest);
+                lines.push(b"(no line feed after the last answer)".to_vec());
+            }
+            _ => {}
         }
         if !output.status.success() {
             lines.push(format!("(the program ended with {})", output.status).into_bytes());
