@@ -2,14 +2,14 @@
 use mathlib.Core.Path.{_≡_, refl, ap, sym, _∙_}
 use mathlib.Core.List.{List, [], _∷_, _++_}
 use mathlib.Core.Bool.{Bool, true, false, _||_}
-use Prim.Native.Nat.{ℕ, zero, suc, _+_, _-_, _<_, _≤_}
+use Prim.Native.Nat.{ℕ, zero, suc, _+_, _-_, _<_, _≤_, min}
 use native.Mathlib.Numerals.{add-one}
 use native.Mathlib.Omega.{arith}
 use lib.ListN.{length, set, take, drop, getD, length-map, length-set}
-use borrow.Author.Tests.{eqb-true, eqb-false}
-use lib.Dec.{eqb}
-use lib.Seq.{getD-set-same, getD-set-other, take-suc-set, length-take-le}
-use Rattle.limits.specs.Limits.{documentLimit}
+use borrow.Author.Tests.{eqb-true, eqb-false, leb-true, leb-false}
+use lib.Dec.{eqb, leb}
+use lib.Seq.{getD-set-same, getD-set-other, take-suc-set, length-take-le, take-all}
+use Rattle.limits.specs.Limits.{documentLimit, lastSerial}
 use mir.Val.{Val}
 use denote.Laws.{Is}
 use denote.Struct.Declared.{row}
@@ -21,7 +21,7 @@ use Rattle.document_model.proofs.Laws.{elem-here, elem-end, find-here, find-on,
 use Rattle.document_table.specs.declared.Table.{Table}
 use Rattle.ascii.proofs.Clash.{clash}
 use Rattle.document_table.specs.declared.Found.the-variants as found
-use Rattle.document_table.specs.Tables.{noDocument, docAt, docsIn, view, Sound, IsFound, IsBeneath, IsPushed, IsRemoved, AreSerials}
+use Rattle.document_table.specs.Tables.{noDocument, docAt, docsIn, view, Sound, IsFound, IsRecordAt, IsBeneath, IsPushed, Pushes, IsRemoved, AreSerials}
 use Rattle.document_table.proofs.Table as table-type
 
 -- what a table passed tells: its array has sixteen places
@@ -43,6 +43,10 @@ pub any-default : {A : Type 0} (l : List A) (i : ℕ) (y z : A) → i < length l
 any-default [] i y z lt = absurd (omega arith)
 any-default (x ∷ l) zero y z lt = refl
 any-default (x ∷ l) (suc i) y z lt = any-default l i y z (omega arith)
+
+-- the record past the documents
+pub record-past : (t : Table) (i : ℕ) (d : Document) → t .count ≤ i → d ≡ noDocument → IsRecordAt t i d
+record-past t i d h e = record { is = λ lt. absurd (omega arith); past = λ le. e; deep = rw e (omega arith) }
 
 -- ---- the document of a serial
 
@@ -76,13 +80,27 @@ is-none t s i h le = record { some-at = λ j q. clash cc; none-at = λ q. h ∙ 
 
 -- ---- a serial above a document
 
-pub beneath-true : (d : Document) (s i z : ℕ) → d .depth ≤ length (d .above) → i < d .depth → getD (d .above) i z ≡ s
-    → elem s (take (d .depth) (d .above)) ≡ elem s (drop i (take (d .depth) (d .above))) → IsBeneath d s true
-beneath-true d s i z le lt e h = record { is = rw (document-above d) (sym (h ∙ elem-here (d .above) (d .depth) i s z le lt e)) }
+-- there are sixteen places
+pub take-places : (l : List ℕ) (k : ℕ) → length l ≡ documentLimit → take k l ≡ take (min k documentLimit) l
+take-places l k e = go (leb k documentLimit) refl
+  where
+    go : (b : Bool) → leb k documentLimit ≡ b → take k l ≡ take (min k documentLimit) l
+    go true h =
+        let m : min k documentLimit ≡ k = omega (arith, leb-true k documentLimit h) in
+        rw m
+    go false h =
+        let lt = leb-false k documentLimit h in
+        take-all k l (omega arith) ∙ sym (take-all (min k documentLimit) l (omega arith))
 
-pub beneath-false : (d : Document) (s i : ℕ) → d .depth ≤ i
-    → elem s (take (d .depth) (d .above)) ≡ elem s (drop i (take (d .depth) (d .above))) → IsBeneath d s false
-beneath-false d s i le h = record { is = rw (document-above d) (sym (h ∙ elem-end (d .above) (d .depth) i s le)) }
+module _ (d : Document) (s n i : ℕ) (long : length (d .above) ≡ documentLimit) (many : n ≡ min (d .depth) documentLimit) (h : elem s (take n (d .above)) ≡ elem s (drop i (take n (d .above)))) where
+  above-is : elem s (documentIn d .identity .above) ≡ elem s (take n (d .above))
+  above-is = ap (elem s) (document-above d ∙ (take-places (d .above) (d .depth) long ∙ ap (λ (k : ℕ). take k (d .above)) (sym many)))
+
+  pub beneath-true : (z : ℕ) → i < n → getD (d .above) i z ≡ s → IsBeneath d s true
+  beneath-true z lt e = record { is = sym (above-is ∙ (h ∙ elem-here (d .above) n i s z (omega arith) lt e)) }
+
+  pub beneath-false : n ≤ i → IsBeneath d s false
+  beneath-false le = record { is = sym (above-is ∙ (h ∙ elem-end (d .above) n i s le)) }
 
 -- ---- a table with no document
 
@@ -122,7 +140,7 @@ module _ (l : List Document) (k : ℕ) (d : Document) (lt : k < length l) where
       values-same f g 0 k (λ n a b. let ne : n ≡ k → ⊥ = λ q. omega arith in rw (getD-set-other l k n d noDocument ne) refl) in
       rw (add-one, values-snoc f 0 k, last, front) refl
 
-pub pushed : (t : Table) (d : Document) → Sound t → length (t .docs) ≡ documentLimit → t .count < documentLimit → d .depth ≤ documentLimit
+pushed : (t : Table) (d : Document) → Sound t → length (t .docs) ≡ documentLimit → t .count < documentLimit → d .depth ≤ documentLimit
     → IsPushed t d (record { docs = set (t .docs) (t .count) d; count = t .count + 1; next = t .next + 1 })
 unfolding docsIn docAt
 pushed t d h long lt a =
@@ -132,6 +150,20 @@ pushed t d h long lt a =
       docs = docs-put (t .docs) (t .count) d k;
       next = add-one (t .next);
     }
+
+-- the table as it was
+pub push-full : (t : Table) (d : Document) → documentLimit ≤ t .count → Pushes t d t
+push-full t d h = record { pushed = λ a b c. absurd (omega arith); full = λ a. refl; spent = λ a. refl; deep = λ a. refl }
+
+pub push-spent : (t : Table) (d : Document) → lastSerial < t .next → Pushes t d t
+push-spent t d h = record { pushed = λ a b c. absurd (omega arith); full = λ a. refl; spent = λ a. refl; deep = λ a. refl }
+
+pub push-deep : (t : Table) (d : Document) → documentLimit < d .depth → Pushes t d t
+push-deep t d h = record { pushed = λ a b c. absurd (omega arith); full = λ a. refl; spent = λ a. refl; deep = λ a. refl }
+
+pub push-put : (t : Table) (d : Document) → Sound t → length (t .docs) ≡ documentLimit → t .count < documentLimit → t .next ≤ lastSerial → d .depth ≤ documentLimit
+    → Pushes t d (record { docs = set (t .docs) (t .count) d; count = t .count + 1; next = t .next + 1 })
+push-put t d sound e a b c = record { pushed = λ x y z. pushed t d sound e a c; full = λ x. absurd (omega arith); spent = λ x. absurd (omega arith); deep = λ x. absurd (omega arith) }
 
 -- ---- a document goes, and all beneath it
 

@@ -5,7 +5,7 @@ use mathlib.Core.List.{List, [], _∷_, _++_}
 use mathlib.Core.Bool.{Bool, false}
 use mathlib.Core.Option.{Option, some, none}
 use lib.ListN.{length, getD, take, replicate}
-use Rattle.limits.specs.Limits.{documentLimit}
+use Rattle.limits.specs.Limits.{documentLimit, lastSerial}
 use Rattle.origins.specs.declared.OriginRange.the-variants as origin
 use Rattle.document_model.specs.Model.{Document as ModelDocument, Table as ModelTable, valuesFrom, elem, find, remaining, removedCount, serialsBeneath}
 use Rattle.document_records.specs.Records.{originBytes, settledLimit, documentIn}
@@ -45,9 +45,10 @@ pub record IsFound (t : Table) (serial : ℕ) (r : Found) : Type 0 where
   pub some-at : (i : ℕ) → r ≡ found.At i → (i < t .count) × (find serial (docsIn t) ≡ some (docAt t i))
   pub none-at : r ≡ found.None → find serial (docsIn t) ≡ none
 
--- the record at a place of a document
+-- the record at a place of a document; past these one that says nothing
 pub record IsRecordAt (t : Table) (i : ℕ) (r : Document) : Type 0 where
-  pub is : r ≡ recordAt t i
+  pub is : i < t .count → r ≡ recordAt t i
+  pub past : t .count ≤ i → r ≡ noDocument
   pub deep : r .depth ≤ documentLimit
 
 pub record IsBeneath (d : Document) (serial : ℕ) (r : Bool) : Type 0 where
@@ -58,6 +59,13 @@ pub record IsPushed (t : Table) (d : Document) (r : Table) : Type 0 where
   pub sound : Sound r
   pub docs : docsIn r ≡ docsIn t ++ (documentIn d ∷ [])
   pub next : r .next ≡ suc (t .next)
+
+-- one document more where that can be, and else the table as it was
+pub record Pushes (t : Table) (d : Document) (r : Table) : Type 0 where
+  pub pushed : t .count < documentLimit → t .next ≤ lastSerial → d .depth ≤ documentLimit → IsPushed t d r
+  pub full : documentLimit ≤ t .count → r ≡ t
+  pub spent : lastSerial < t .next → r ≡ t
+  pub deep : documentLimit < d .depth → r ≡ t
 
 -- the documents that stay, and how many there were
 pub record IsRemoved (t : Table) (serial : ℕ) (r : Table) : Type 0 where

@@ -1,11 +1,10 @@
 // The table of loaded documents, by value: find a document, take its record out, put one in, remove one with all beneath it.
 ghost use mathlib.Core.Path.{_≡_};
-ghost use mathlib.Core.List.{[], _∷_, _++_};
-ghost use Prim.Native.Nat.{_+_, _<_, _≤_};
-ghost use Rattle.limits.specs.Limits.{documentLimit, lastSerial};
+ghost use Prim.Native.Nat.{min};
+ghost use Rattle.limits.specs.Limits.{documentLimit};
 ghost use Rattle.document_model.specs.Model.{newTable, remaining, serialsBeneath};
 ghost use Rattle.document_records.specs.Records.{documentIn};
-ghost use Rattle.document_table.specs.Tables.{noDocument, view, Sound, IsFound, IsRecordAt, IsBeneath, IsPushed, IsRemoved, AreSerials};
+ghost use Rattle.document_table.specs.Tables.{noDocument, view, Sound, IsFound, IsRecordAt, IsBeneath, Pushes, IsRemoved, AreSerials};
 use document_records::Document;
 use limits::DOCUMENTS;
 use origins::OriginRange;
@@ -72,20 +71,29 @@ pub fn find(t: Table, serial: u32) -> Found
     Found::None
 }
 
-// The record at a place.
+// The record at a place; past the documents one that says nothing.
 pub fn document_at(t: Table, i: usize) -> Document
-    requires { ⌜ Sound t × (i < t .count) ⌝ }
+    requires { ⌜ Sound t ⌝ }
     ensures { λ r. ⌜ IsRecordAt t i r ⌝ }
 {
+    if t.count <= i {
+        return no_document();
+    }
     t.docs[i]
+}
+
+// As many serials as stand above a document, and no more than there are places.
+fn places(depth: usize) -> usize
+    ensures { λ r. ⌜ r ≡ min depth documentLimit ⌝ }
+{
+    if DOCUMENTS < depth { DOCUMENTS } else { depth }
 }
 
 // Whether a document is beneath a serial.
 pub fn is_beneath(d: Document, serial: u32) -> bool
-    requires { ⌜ d .depth ≤ documentLimit ⌝ }
     ensures { λ r. ⌜ IsBeneath d serial r ⌝ }
 {
-    let n = d.depth;
+    let n = places(d.depth);
     let mut i: usize = 0;
     while i < n {
         if d.above[i] == serial {
@@ -96,11 +104,20 @@ pub fn is_beneath(d: Document, serial: u32) -> bool
     false
 }
 
-// One document more, and the next serial.
+// One document more, and the next serial; the table as it was where there is no room or no serial left, or more stand above the document than there are places.
 pub fn push(t: Table, d: Document) -> Table
-    requires { ⌜ Sound t × (t .count < documentLimit) × (t .next ≤ lastSerial) × (d .depth ≤ documentLimit) ⌝ }
-    ensures { λ r. ⌜ IsPushed t d r ⌝ }
+    requires { ⌜ Sound t ⌝ }
+    ensures { λ r. ⌜ Pushes t d r ⌝ }
 {
+    if DOCUMENTS <= t.count {
+        return t;
+    }
+    if (limits::LAST_SERIAL as u64) < t.next {
+        return t;
+    }
+    if DOCUMENTS < d.depth {
+        return t;
+    }
     let mut u = t;
     let n = u.count;
     u.docs[n] = d;

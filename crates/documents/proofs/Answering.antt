@@ -113,7 +113,7 @@ pub found-place : (t : Table) (s : ℕ) (f : Found) (i : ℕ) → IsFound t s f 
 found-place t s f i h k = h .some-at i k .0
 
 pub found-record : (t : Table) (s : ℕ) (f : Found) (i : ℕ) (d : Document) → IsFound t s f → f ≡ found.At i → IsRecordAt t i d → find s (docsIn t) ≡ some (documentIn d)
-found-record t s f i d h k e = h .some-at i k .1 ∙ ap some (doc-at t i ∙ ap documentIn (sym (e .is)))
+found-record t s f i d h k e = h .some-at i k .1 ∙ ap some (doc-at t i ∙ ap documentIn (sym (e .is (h .some-at i k .0))))
 
 module _ (t : Table) (s n : ℕ) (o : Text) (x : OriginText) (b : Bool) (read : x ≡ originAs (originOf o)) (tested : b ≡ isBad x) where
   pub refused-bad : b ≡ true → refused 3 ≡ answerTo (ask s n o) (view t)

@@ -28,7 +28,7 @@ use Rattle.document_model.proofs.RowByRow.{framed-long, framed-bad, framed-src,
 use Rattle.document_table.specs.declared.Table.{Table}
 use Rattle.document_table.specs.declared.Found.{Found}
 use Rattle.document_table.specs.declared.Found.the-variants as found
-use Rattle.document_table.specs.Tables.{recordAt, docsIn, view, IsFound, IsRecordAt, IsPushed}
+use Rattle.document_table.specs.Tables.{recordAt, docsIn, view, IsFound, IsRecordAt, Pushes}
 use Rattle.document_table.proofs.Laws.{docs-length}
 use Rattle.document_loads.specs.declared.FrameMarks.{FrameMarks}
 use Rattle.document_loads.specs.declared.NewDocument.{NewDocument}
@@ -141,9 +141,9 @@ module _ (t : Table) (s : ℕ) (x : OriginText) (has : Bool) (sandbox : List ℕ
         placed n e h o a p q read good =
             record {
               has = record { sound = valid .sound; place = is .some-at i k .0; room = r .serial n e .1; left = r .serial n e .2 };
-              above = subst (λ (d : Document). length (documentIn d .identity .above) < documentLimit) (at .is) (found-shallow t s c valid (found-record t s f i c is k at));
+              above = subst (λ (d : Document). length (documentIn d .identity .above) < documentLimit) (at .is (is .some-at i k .0)) (found-shallow t s c valid (found-record t s f i c is k at));
               serial = r .serial n e .0;
-              loads = subst (λ (d : Document). outcome (framedLoad s h o a) (view t) ≡ loadOf (view t) (isMalformed h) (framedDocument (documentIn d) h a) (framedIdentity (documentIn d .identity) a (originOf o))) (at .is) (is-load h o a p q read good);
+              loads = subst (λ (d : Document). outcome (framedLoad s h o a) (view t) ≡ loadOf (view t) (isMalformed h) (framedDocument (documentIn d) h a) (framedIdentity (documentIn d .identity) a (originOf o))) (at .is (is .some-at i k .0)) (is-load h o a p q read good);
             }
 
         pub frame-placed : (n : ℕ) → rm ≡ room.Serial n → IsFrameRoom t s x has sandbox (frame.At (record { container = i; serial = n }))
@@ -184,15 +184,15 @@ module _ (t : Table) (s : ℕ) (x y : OriginText) (marks : FrameMarks) (allow sa
 -- ---- the load
 
 pub loads-at : (t : Table) (p : FramePlace) (x y : OriginText) (h o allow : Text) (marks : FrameMarks) (sandbox src : Text) (c : Document) (new : NewDocument) (u : Table)
-    → IsRecordAt t (p .container) c → IsFramedDocument c x o h y (attributes allow marks sandbox src) (p .serial) new → IsPushed t (new .document) u
+    → IsRecordAt t (p .container) c → IsFramedDocument c x o h y (attributes allow marks sandbox src) (p .serial) new → Pushes t (new .document) u
     → LoadsAt t p x y h o (attributes allow marks sandbox src) (record { answer = loading.Loaded (record { serial = p .serial; malformed = new .malformed }); table = u })
-loads-at t p x y h o allow marks sandbox src c new u at made pushed =
+loads-at t p x y h o allow marks sandbox src c new u at made pushes =
     let a = attributes allow marks sandbox src in
     record {
       says = λ s valid read read-src le here.
-          let above : length (documentIn c .identity .above) < documentLimit = subst (λ (d : Document). length (documentIn d .identity .above) < documentLimit) (sym (at .is)) (here .above) in
-          let loads = subst (λ (d : Document). outcome (framedLoad s h o a) (view t) ≡ loadOf (view t) (isMalformed h) (framedDocument (documentIn d) h a) (framedIdentity (documentIn d .identity) a (originOf o))) (sym (at .is)) (here .loads) in
-          accepted-load (framedLoad s h o a) t u (new .document) (isMalformed h) (new .malformed) (p .serial) (framedDocument (documentIn c) h a) (framedIdentity (documentIn c .identity) a (originOf o)) valid loads (here .has .room) (here .has .left) (here .serial) (made .malformed le) (made .says le (at .deep) above read read-src) pushed;
+          let above : length (documentIn c .identity .above) < documentLimit = subst (λ (d : Document). length (documentIn d .identity .above) < documentLimit) (sym (at .is (here .has .place))) (here .above) in
+          let loads = subst (λ (d : Document). outcome (framedLoad s h o a) (view t) ≡ loadOf (view t) (isMalformed h) (framedDocument (documentIn d) h a) (framedIdentity (documentIn d .identity) a (originOf o))) (sym (at .is (here .has .place))) (here .loads) in
+          accepted-load (framedLoad s h o a) t u (new .document) (isMalformed h) (new .malformed) (p .serial) (framedDocument (documentIn c) h a) (framedIdentity (documentIn c .identity) a (originOf o)) valid loads (here .has .room) (here .has .left) (here .serial) (made .malformed le) (made .says le (at .deep) above read read-src) (pushes .pushed (here .has .room) (here .has .left) (made .depth));
     }
 
 module _ (t : Table) (s : ℕ) (h o allow : Text) (marks : FrameMarks) (sandbox src : Text) (x y : OriginText) (read : x ≡ originAs (originOf o)) (read-src : y ≡ originAs (originOf src)) (r : FrameRoom) (is : IsAdmitted t s x y marks allow sandbox h r) where

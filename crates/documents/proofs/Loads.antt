@@ -21,7 +21,7 @@ use Rattle.document_model.specs.Model.{Text, Table as ModelTable, Identity, Doc
 use Rattle.document_model.proofs.Laws.{table-one}
 use Rattle.document_model.proofs.RowByRow.{answer-of, table-of, load-full, load-spent, load-answer, top-long, top-bad, top-load}
 use Rattle.document_table.specs.declared.Table.{Table}
-use Rattle.document_table.specs.Tables.{docsIn, view, IsPushed}
+use Rattle.document_table.specs.Tables.{docsIn, view, IsPushed, Pushes}
 use Rattle.document_table.proofs.Laws.{docs-length}
 use Rattle.document_loads.specs.declared.NewDocument.{NewDocument}
 use Rattle.document_loads.specs.Loads.{IsTopDocument}
@@ -101,13 +101,7 @@ module _ (t : Table) (h o : Text) (valid : Valid t) where
       pub top-refused : (n : Refusal) → r ≡ room.Refused n → Loads (topLoad h o) t (record { answer = loading.Refused n; table = t })
       top-refused n k = refused-load (topLoad h o) t n valid (top-is-load ∙ is .none n k (isMalformed h) (topDocument h) (topIdentity (originOf o)))
 
-      pub top-accepted : (n : ℕ) (new : NewDocument) (u : Table) → r ≡ room.Serial n → IsTopDocument x o h n new → IsPushed t (new .document) u
+      pub top-accepted : (n : ℕ) (new : NewDocument) (u : Table) → r ≡ room.Serial n → IsTopDocument x o h n new → Pushes t (new .document) u
           → Loads (topLoad h o) t (record { answer = loading.Loaded (record { serial = n; malformed = new .malformed }); table = u })
       top-accepted n new u k top p =
-          accepted-load (topLoad h o) t u (new .document) (isMalformed h) (new .malformed) n (topDocument h) (topIdentity (originOf o)) valid top-is-load (is .serial n k .1) (is .serial n k .2) (is .serial n k .0) (top .malformed le) (top .says le read) p
-
-pub room-count : (t : Table) (r : Room) (n : ℕ) → IsRoom t r → r ≡ room.Serial n → t .count < documentLimit
-room-count t r n is k = is .serial n k .1
-
-pub room-next : (t : Table) (r : Room) (n : ℕ) → IsRoom t r → r ≡ room.Serial n → t .next ≤ lastSerial
-room-next t r n is k = is .serial n k .2
+          accepted-load (topLoad h o) t u (new .document) (isMalformed h) (new .malformed) n (topDocument h) (topIdentity (originOf o)) valid top-is-load (is .serial n k .1) (is .serial n k .2) (is .serial n k .0) (top .malformed le) (top .says le read) (p .pushed (is .serial n k .1) (is .serial n k .2) (top .depth))

@@ -1,5 +1,6 @@
 -- `push` is right: the places before the last are as they were.
-use Rattle.document_table.proofs.Laws.{long, pushed}
+use native.Mathlib.Omega.{arith}
+use Rattle.document_table.proofs.Laws.{long, push-full, push-spent, push-deep, push-put}
 use borrow.Author.Needs.{needs}
 use Rattle.document_table.proofs.push.Statement.{statement}
 use Rattle.document_table.proofs.push.Tie as tie
@@ -8,8 +9,14 @@ pub push-spec : {M : Type 1} → statement M
 push-spec =
     tie.close
     (tie.spec
+    (λ c. search push-full)
+    (λ c. search needs)
+    (λ c. search push-spent)
+    (λ c. search push-deep)
     (λ c. search needs)
     (λ c. search needs)
     (λ c. search needs)
     (λ c. search needs)
-    (λ c. pushed (c .args .t) (c .args .d) (c .pre .0) (long (c .args .t) _ (c .good .0)) (c .pre .1) (c .pre .3)))
+    (λ c.
+    let h = c .before .before .before .before .before .before in
+    push-put (h .args .t) (h .args .d) (h .pre) (long (h .args .t) _ (h .good .0)) (omega arith) (omega arith) (omega arith)))

@@ -27,7 +27,7 @@ remove-spec =
     let h = c .before .before .before .before .before in
     let r = c .before .before .before .document-at in
     let b = c .before .is-beneath in
-    (search needs, sweep-goes (h .before .args .t) (h .loop .u) (h .before .args .serial) (h .loop .i) (h .loop .k) (h .loop .inv .1) (r .result) (b .result) (r .ensures .is) (b .ensures) (c .if1 .taken)))
+    (search needs, sweep-goes (h .before .args .t) (h .loop .u) (h .before .args .serial) (h .loop .i) (h .loop .k) (h .loop .inv .1) (r .result) (b .result) (r .ensures .is (omega arith)) (b .ensures) (c .if1 .taken)))
     (λ c. search needs)
     (λ c. search needs)
     (λ c. search needs)
@@ -37,5 +37,5 @@ remove-spec =
     let h = c .before .before .before .before .before in
     let r = c .before .before .before .document-at in
     let b = c .before .is-beneath in
-    (search needs, sweep-stays (h .before .args .t) (h .loop .u) (h .before .args .serial) (h .loop .i) (h .loop .k) (h .loop .inv .1) (r .result) (b .result) (r .ensures .is) (b .ensures) (c .if1 .left) (r .ensures .deep) (omega arith)))
+    (search needs, sweep-stays (h .before .args .t) (h .loop .u) (h .before .args .serial) (h .loop .i) (h .loop .k) (h .loop .inv .1) (r .result) (b .result) (r .ensures .is (omega arith)) (b .ensures) (c .if1 .left) (r .ensures .deep) (omega arith)))
     (λ c. is-removed (c .before .before .args .t) (c .before .loop .u) (c .before .before .args .serial) (c .before .loop .i) (c .before .loop .k) (c .before .loop .inv .1) (omega arith) (c .before .before .pre .count)))

@@ -31,12 +31,12 @@ serials-beneath-spec =
     let h = c .before .before .before .before in
     let r = c .before .before .document-at in
     let b = c .before .is-beneath in
-    (search needs, list-more (h .before .args .t) (h .before .args .serial) (h .loop .list) (h .loop .i) (h .loop .k) (h .loop .inv .1) (r .result) (b .result) (r .ensures .is) (b .ensures) (c .if1 .taken) (omega arith)))
+    (search needs, list-more (h .before .args .t) (h .before .args .serial) (h .loop .list) (h .loop .i) (h .loop .k) (h .loop .inv .1) (r .result) (b .result) (r .ensures .is (omega arith)) (b .ensures) (c .if1 .taken) (omega arith)))
     (λ c. search needs)
     (λ c. search needs)
     (λ c.
     let h = c .before .before .before .before in
     let r = c .before .before .document-at in
     let b = c .before .is-beneath in
-    (search needs, list-same (h .before .args .t) (h .before .args .serial) (h .loop .list) (h .loop .i) (h .loop .k) (h .loop .inv .1) (r .result) (b .result) (r .ensures .is) (b .ensures) (c .if1 .left)))
+    (search needs, list-same (h .before .args .t) (h .before .args .serial) (h .loop .list) (h .loop .i) (h .loop .k) (h .loop .inv .1) (r .result) (b .result) (r .ensures .is (omega arith)) (b .ensures) (c .if1 .left)))
     (λ c. are-serials (c .before .before .args .t) (c .before .before .args .serial) (c .before .loop .list) (c .before .loop .i) (c .before .loop .k) (c .before .loop .inv .1) (omega arith) (c .before .before .pre .count)))

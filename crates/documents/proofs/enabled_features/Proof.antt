@@ -1,5 +1,5 @@
 -- `enabled_features` is right: each return is a row of the definition.
-use Rattle.documents.proofs.Answering.{found-place, refused-features, answered-features}
+use Rattle.documents.proofs.Answering.{refused-features, answered-features}
 use borrow.Author.Needs.{needs}
 use Rattle.documents.proofs.enabled_features.Statement.{statement}
 use Rattle.documents.proofs.enabled_features.Tie as tie
@@ -10,7 +10,7 @@ enabled-features-spec =
     (tie.spec
     (λ c κs. search needs)
     (λ c. search needs)
-    (λ c κs. (search needs, search found-place))
+    (λ c κs. search needs)
     (λ c κs. search needs)
     (λ c. search needs)
     (λ c. search answered-features)

@@ -1,5 +1,4 @@
 -- `forecast` is right: each return is a row of the definition, in its order.
-use Rattle.documents.proofs.Answering.{found-place}
 use Rattle.documents.proofs.Forecasts.{forecast-allow, forecast-sandbox, forecast-origin, refused-forecast, answered-forecast}
 use borrow.Author.Needs.{needs}
 use Rattle.documents.proofs.forecast.Statement.{statement}
@@ -16,7 +15,7 @@ forecast-spec =
     (λ c. search forecast-origin)
     (λ c κs. search needs)
     (λ c. search needs)
-    (λ c κs. (search needs, search found-place))
+    (λ c κs. search needs)
     (λ c κs. search needs)
     (λ c. search needs)
     (λ c. search answered-forecast)

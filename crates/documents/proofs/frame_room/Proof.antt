@@ -1,5 +1,4 @@
 -- `frame_room` is right: each return is a row of the definition, in its order.
-use Rattle.documents.proofs.Answering.{found-place}
 use Rattle.documents.proofs.FramedLoads.{frame-closed, frame-barred, frame-refused, frame-placed}
 use borrow.Author.Needs.{needs}
 use Rattle.documents.proofs.frame_room.Statement.{statement}
@@ -11,7 +10,7 @@ frame-room-spec =
     (tie.spec
     (λ c κs. search needs)
     (λ c. search needs)
-    (λ c κs. (search needs, search found-place))
+    (λ c κs. search needs)
     (λ c κs. search needs)
     (λ c κs. search needs)
     (λ c. search frame-barred)

@@ -1,5 +1,5 @@
 -- `load_top` is right: each return is a row of the definition, in its order.
-use Rattle.documents.proofs.Loads.{room-count, room-next, top-header, top-origin, top-refused, top-accepted}
+use Rattle.documents.proofs.Loads.{top-header, top-origin, top-refused, top-accepted}
 use borrow.Author.Needs.{needs}
 use Rattle.documents.proofs.load_top.Statement.{statement}
 use Rattle.documents.proofs.load_top.Tie as tie
@@ -16,6 +16,6 @@ load-top-spec =
     (λ c. search needs)
     (λ c. search needs)
     (λ c κs. search needs)
-    (λ c κs. (search needs, search room-count, search room-next, search needs))
+    (λ c κs. search needs)
     (λ c. search top-refused)
     (λ c. search top-accepted))

@@ -1,5 +1,5 @@
 -- `question` is right: each return is a row of the definition, in its order.
-use Rattle.documents.proofs.Answering.{found-place, refused-bad, refused-feature, refused-question, answered-question}
+use Rattle.documents.proofs.Answering.{refused-bad, refused-feature, refused-question, answered-question}
 use borrow.Author.Needs.{needs}
 use Rattle.documents.proofs.question.Statement.{statement}
 use Rattle.documents.proofs.question.Tie as tie
@@ -15,7 +15,7 @@ question-spec =
     (λ c. search refused-feature)
     (λ c κs. search needs)
     (λ c. search needs)
-    (λ c κs. (search needs, search found-place))
+    (λ c κs. search needs)
     (λ c κs. search needs)
     (λ c κs. search needs)
     (λ c. search needs)
