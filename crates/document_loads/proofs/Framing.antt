@@ -42,12 +42,12 @@ use Rattle.document_loads.specs.Loads.{attributes, IsKept, IsAtMost, Arr
 
 -- ---- a document at the top
 
-pub is-top : (o h above : List ℕ) (n : ℕ) (x : OriginText) (zeros : List ℕ) (a : Arrival) (kept : Kept) → IsKept h kept → Arrives x o zeros (range.Opaque n) n a
-    → IsTopDocument x o h n (record { document = record { serial = n; above = above; depth = 0; origin = a .origin; text = a .text; sandboxed = false; inherited = 131071; header = kept .bytes }; malformed = kept .malformed })
-is-top o h above n x zeros a kept keeps at =
+pub is-top : (o h above : List ℕ) (n : ℕ) (x : OriginText) (zeros : List ℕ) (a : Arrival) (kept : Kept) → x ≡ originAs (originOf o) → IsKept h kept → Arrives x o zeros (range.Opaque n) n a
+    → IsTopDocument o h n (record { document = record { serial = n; above = above; depth = 0; origin = a .origin; text = a .text; sandboxed = false; inherited = 131071; header = kept .bytes }; malformed = kept .malformed })
+is-top o h above n x zeros a kept read keeps at =
     record {
       depth = omega arith;
-      says = λ le read.
+      says = λ le.
           document-parts (record { serial = n; above = above; depth = 0; origin = a .origin; text = a .text; sandboxed = false; inherited = 131071; header = kept .bytes })
           ∙ (rw (at .says read, values-same (settledIn (kept .bytes)) (declares h) 0 featureCount (λ k y z. keeps .says le k), ← top-mask) (sym (top-parts h (originOf o) n)));
       malformed = keeps .malformed;
@@ -87,6 +87,8 @@ arrives-declared container d src o r h none e = h .none-declared e ∙ sym (fres
 
 -- `framed_document`
 pub is-framed : (c : Document) (o h : List ℕ) (n : ℕ) (said x : OriginText) (allow : List ℕ) (marks : FrameMarks) (sandbox src : List ℕ) (b same : Bool) (d : DeclaredOrigin) (at : Arrival) (m k : ℕ) (above : List ℕ) (kept : Kept)
+    → said ≡ originAs (originOf o)
+    → x ≡ originAs (originOf src)
     → IsKept h kept
     → IsSandboxed (c .sandboxed) (marks .«has_sandbox») sandbox b
     → IsDeclared b x d
@@ -95,15 +97,15 @@ pub is-framed : (c : Document) (o h : List ℕ) (n : ℕ) (said x : OriginText) 
     → IsInherited (recordPolicy c) allow (marks .allowfullscreen) same (originIn (at .text) (at .origin)) m
     → IsAtMost (c .depth) 15 k
     → IsAbove c k above
-    → IsFramedDocument c said o h x (attributes allow marks sandbox src) n
+    → IsFramedDocument c o h (attributes allow marks sandbox src) n
     (record { document = record { serial = n; above = above; depth = k + 1; origin = at .origin; text = at .text; sandboxed = b; inherited = m; header = kept .bytes }; malformed = kept .malformed })
-is-framed c o h n said x allow marks sandbox src b same d at m k above kept keeps box ds arrives is i most up =
+is-framed c o h n said x allow marks sandbox src b same d at m k above kept read read-src keeps box ds arrives is i most up =
     let a = attributes allow marks sandbox src in
     let f = frameOf (documentIn c .identity) a in
     let here = originIn (at .text) (at .origin) in
     record {
       depth = omega (arith, most .within);
-      says = λ le within room read read-src.
+      says = λ le within room.
           let w : same ≡ sameOrigin (frameDeclared (documentIn c .identity) a) here =
           arrives-declared (ownOrigin c) d src here same is (declaredIn src (ownOrigin c) d) refl ∙ ap (λ (y : Origin). sameOrigin y here) (sym (declared-is c a b x d box ds read-src)) in
           let bits = i .says f (policy-allow a) w in
@@ -118,26 +120,23 @@ is-framed c o h n said x allow marks sandbox src b same d at m k above kept keep
 
 -- ---- a forecast
 
-module _ (c : Document) (x : OriginText) (allow : List ℕ) (marks : FrameMarks) (sandbox src : List ℕ) (b : Bool) (d : DeclaredOrigin) (h : IsSandboxed (c .sandboxed) (marks .«has_sandbox») sandbox b) (k : IsDeclared b x d) where
-  foretold-at : (o : Origin) (same : Bool) (r : ℕ) → orFresh (declaredIn src (ownOrigin c) d) ≡ o → same ≡ sameOrigin o o → IsInherited (recordPolicy c) allow (marks .allowfullscreen) same o r → Foretells c x (attributes allow marks sandbox src) r
+module _ (c : Document) (x : OriginText) (allow : List ℕ) (marks : FrameMarks) (sandbox src : List ℕ) (b : Bool) (d : DeclaredOrigin) (h : IsSandboxed (c .sandboxed) (marks .«has_sandbox») sandbox b) (k : IsDeclared b x d) (e : x ≡ originAs (originOf src)) where
+  foretold-at : (o : Origin) (same : Bool) (r : ℕ) → orFresh (declaredIn src (ownOrigin c) d) ≡ o → same ≡ sameOrigin o o → IsInherited (recordPolicy c) allow (marks .allowfullscreen) same o r → Foretells c (attributes allow marks sandbox src) r
   foretold-at o same r q s i =
       let a = attributes allow marks sandbox src in
       let f = frameOf (documentIn c .identity) a in
-      record {
-        says = λ e.
-            let w : frameDeclared (documentIn c .identity) a ≡ o = declared-is c a b x d h k e ∙ q in
-            i .says f (policy-allow a) (s ∙ ap (λ (y : Origin). sameOrigin y o) (sym w))
-            ∙ (ap (λ (y : Origin). maskOf (inheritedIn (recordPolicy c) f y)) (sym w) ∙ sym (forecast-parts (recordPolicy c) f));
-      }
+      let w : frameDeclared (documentIn c .identity) a ≡ o = declared-is c a b x d h k e ∙ q in
+      i .says f (policy-allow a) (s ∙ ap (λ (y : Origin). sameOrigin y o) (sym w))
+      ∙ (ap (λ (y : Origin). maskOf (inheritedIn (recordPolicy c) f y)) (sym w) ∙ sym (forecast-parts (recordPolicy c) f))
 
-  pub foretold-fresh : (r : ℕ) → d ≡ declared.Fresh → IsInherited (recordPolicy c) allow (marks .allowfullscreen) false (originIn src range.Fresh) r → Foretells c x (attributes allow marks sandbox src) r
+  pub foretold-fresh : (r : ℕ) → d ≡ declared.Fresh → IsInherited (recordPolicy c) allow (marks .allowfullscreen) false (originIn src range.Fresh) r → Foretells c (attributes allow marks sandbox src) r
   foretold-fresh r q i = foretold-at fresh false r (ap (λ (y : DeclaredOrigin). orFresh (declaredIn src (ownOrigin c) y)) q) (sym (fresh-left fresh)) i
 
-  pub foretold-none : (r : ℕ) → d ≡ declared.NotAnOrigin → IsInherited (recordPolicy c) allow (marks .allowfullscreen) false (originIn src range.Fresh) r → Foretells c x (attributes allow marks sandbox src) r
+  pub foretold-none : (r : ℕ) → d ≡ declared.NotAnOrigin → IsInherited (recordPolicy c) allow (marks .allowfullscreen) false (originIn src range.Fresh) r → Foretells c (attributes allow marks sandbox src) r
   foretold-none r q i = foretold-at fresh false r (ap (λ (y : DeclaredOrigin). orFresh (declaredIn src (ownOrigin c) y)) q) (sym (fresh-left fresh)) i
 
-  pub foretold-container : (same : Bool) (r : ℕ) → d ≡ declared.Container → same ≡ sameOrigin (ownOrigin c) (ownOrigin c) → IsInherited (recordPolicy c) allow (marks .allowfullscreen) same (ownOrigin c) r → Foretells c x (attributes allow marks sandbox src) r
+  pub foretold-container : (same : Bool) (r : ℕ) → d ≡ declared.Container → same ≡ sameOrigin (ownOrigin c) (ownOrigin c) → IsInherited (recordPolicy c) allow (marks .allowfullscreen) same (ownOrigin c) r → Foretells c (attributes allow marks sandbox src) r
   foretold-container same r q s i = foretold-at (ownOrigin c) same r (ap (λ (y : DeclaredOrigin). orFresh (declaredIn src (ownOrigin c) y)) q) s i
 
-  pub foretold-src : (p : TupleRange) (r : ℕ) → d ≡ declared.Src p → IsInherited (recordPolicy c) allow (marks .allowfullscreen) true (originIn src (range.Tuple p)) r → Foretells c x (attributes allow marks sandbox src) r
+  pub foretold-src : (p : TupleRange) (r : ℕ) → d ≡ declared.Src p → IsInherited (recordPolicy c) allow (marks .allowfullscreen) true (originIn src (range.Tuple p)) r → Foretells c (attributes allow marks sandbox src) r
   foretold-src p r q i = foretold-at (tuple (tupleIn src p)) true r (ap (λ (y : DeclaredOrigin). orFresh (declaredIn src (ownOrigin c) y)) q) (sym (tuple-self (tupleIn src p))) i

@@ -51,18 +51,18 @@ pub record IsAbove (c : Document) (n : ℕ) (r : List ℕ) : Type 0 where
   pub places : length (c .above) ≡ documentLimit
 
 -- the record of a document at the top with a header within the limit, and whether that was malformed
-pub record IsTopDocument (said : OriginText) (o h : Text) (n : ℕ) (r : NewDocument) : Type 0 where
+pub record IsTopDocument (o h : Text) (n : ℕ) (r : NewDocument) : Type 0 where
   pub depth : r .document .depth ≤ documentLimit
-  pub says : length h ≤ textBytes → said ≡ originAs (originOf o) → documentIn (r .document) ≡ topDocument h (topIdentity (originOf o) n)
+  pub says : length h ≤ textBytes → documentIn (r .document) ≡ topDocument h (topIdentity (originOf o) n)
   pub malformed : length h ≤ textBytes → r .malformed ≡ isMalformed h
 
 -- the same in a frame of another document that has room for one more above
-pub record IsFramedDocument (c : Document) (said : OriginText) (o h : Text) (src : OriginText) (a : Attributes) (n : ℕ) (r : NewDocument) : Type 0 where
+pub record IsFramedDocument (c : Document) (o h : Text) (a : Attributes) (n : ℕ) (r : NewDocument) : Type 0 where
   pub depth : r .document .depth ≤ documentLimit
-  pub says : length h ≤ textBytes → c .depth ≤ documentLimit → length (documentIn c .identity .above) < documentLimit → said ≡ originAs (originOf o) → src ≡ originAs (originOf (a .src))
+  pub says : length h ≤ textBytes → c .depth ≤ documentLimit → length (documentIn c .identity .above) < documentLimit
       → documentIn (r .document) ≡ framedDocument (documentIn c) h a (framedIdentity (documentIn c .identity) a (originOf o) n)
   pub malformed : length h ≤ textBytes → r .malformed ≡ isMalformed h
 
--- a forecast for a frame in a document's record, told what src says
-pub record Foretells (c : Document) (said : OriginText) (a : Attributes) (r : ℕ) : Type 0 where
-  pub says : said ≡ originAs (originOf (a .src)) → r ≡ forecast (recordPolicy c) (frameOf (documentIn c .identity) a)
+-- a forecast for a frame in a document's record
+abbrev pub Foretells : Document → Attributes → ℕ → Type 0
+Foretells c a r = r ≡ forecast (recordPolicy c) (frameOf (documentIn c .identity) a)

@@ -114,9 +114,10 @@ fn arrive(
 }
 
 // The record of a document at the top.
-pub fn top_document(serial: u32, said: OriginText, origin: &[u8], header: &[u8]) -> NewDocument
-    ensures { λ r. ⌜ IsTopDocument said (now (origin .entry)) (now (header .entry)) serial r ⌝ }
+pub fn top_document(serial: u32, origin: &[u8], header: &[u8]) -> NewDocument
+    ensures { λ r. ⌜ IsTopDocument (now (origin .entry)) (now (header .entry)) serial r ⌝ }
 {
+    let said = origins::origin_text(origin);
     let k = settle_header(header);
     let a = arrive(
         said,
@@ -163,17 +164,17 @@ fn above_in(c: Document, n: usize) -> [u32; DOCUMENTS]
 pub fn framed_document(
     c: Document,
     serial: u32,
-    said: OriginText,
     origin: &[u8],
-    src_said: OriginText,
     src: &[u8],
     marks: FrameMarks,
     allow: &[u8],
     sandbox: &[u8],
     header: &[u8],
 ) -> NewDocument
-    ensures { λ r. ⌜ IsFramedDocument c said (now (origin .entry)) (now (header .entry)) «src_said» (attributes (now (allow .entry)) marks (now (sandbox .entry)) (now (src .entry))) serial r ⌝ }
+    ensures { λ r. ⌜ IsFramedDocument c (now (origin .entry)) (now (header .entry)) (attributes (now (allow .entry)) marks (now (sandbox .entry)) (now (src .entry))) serial r ⌝ }
 {
+    let said = origins::origin_text(origin);
+    let src_said = origins::origin_text(src);
     let sandboxed = containers::is_sandboxed(c.sandboxed, marks.has_sandbox, sandbox);
     let declared = containers::declared_origin(sandboxed, src_said);
     let ctext = c.text;
@@ -202,17 +203,11 @@ pub fn framed_document(
     }
 }
 
-// What a frame in a document would inherit at its declared origin, by what src says.
-pub fn foretold(
-    c: Document,
-    said: OriginText,
-    src: &[u8],
-    marks: FrameMarks,
-    allow: &[u8],
-    sandbox: &[u8],
-) -> u32
-    ensures { λ r. ⌜ Foretells c said (attributes (now (allow .entry)) marks (now (sandbox .entry)) (now (src .entry))) r ⌝ }
+// What a frame in a document would inherit at its declared origin.
+pub fn foretold(c: Document, src: &[u8], marks: FrameMarks, allow: &[u8], sandbox: &[u8]) -> u32
+    ensures { λ r. ⌜ Foretells c (attributes (now (allow .entry)) marks (now (sandbox .entry)) (now (src .entry))) r ⌝ }
 {
+    let said = origins::origin_text(src);
     let sandboxed = containers::is_sandboxed(c.sandboxed, marks.has_sandbox, sandbox);
     match containers::declared_origin(sandboxed, said) {
         DeclaredOrigin::Fresh => document_records::inherited(

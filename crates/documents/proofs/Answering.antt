@@ -108,10 +108,7 @@ bad-is noOrigin = refl
 pub good-is : (o : Text) (x : OriginText) (b c : Bool) → x ≡ originAs (originOf o) → b ≡ isBad x → b ≡ c → isGoodOrigin (originOf o) ≡ not c
 good-is o x b c e h k = sym (bad-is (originOf o)) ∙ ap not (ap isBad (sym e) ∙ (sym h ∙ k))
 
--- the document that is found has a place, and is that of the record there
-pub found-place : (t : Table) (s : ℕ) (f : Found) (i : ℕ) → IsFound t s f → f ≡ found.At i → i < t .count
-found-place t s f i h k = h .some-at i k .0
-
+-- the document that is found is that of the record there
 pub found-record : (t : Table) (s : ℕ) (f : Found) (i : ℕ) (d : Document) → IsFound t s f → f ≡ found.At i → IsRecordAt t i d → find s (docsIn t) ≡ some (documentIn d)
 found-record t s f i d h k e = h .some-at i k .1 ∙ ap some (doc-at t i ∙ ap documentIn (sym (e .is (h .some-at i k .0))))
 

@@ -52,9 +52,9 @@ module _ (t : Table) (s : ℕ) (allow : List ℕ) (marks : FrameMarks) (sandbox 
               let a = attributes allow marks sandbox src in
               sym (answer-of (forecastOf s a) (view t) (refuse NotLoaded) (forecast-closed s a (view t) short (good-is src x b false read tested good) (h .none-at k)))
 
-          pub answered-forecast : (i : ℕ) (c : Document) (m : ℕ) → f ≡ found.At i → IsRecordAt t i c → Foretells c x (attributes allow marks sandbox src) m
+          pub answered-forecast : (i : ℕ) (c : Document) (m : ℕ) → f ≡ found.At i → IsRecordAt t i c → Foretells c (attributes allow marks sandbox src) m
               → features m ≡ answerTo (forecastOf s (attributes allow marks sandbox src)) (view t)
           answered-forecast i c m k e says =
               let a = attributes allow marks sandbox src in
-              ap features (says .says read)
+              ap features says
               ∙ sym (answer-of (forecastOf s a) (view t) (accept (features (forecast (recordPolicy c) (frameOf (documentIn c .identity) a))) (view t)) (forecast-answer s a (view t) short (good-is src x b false read tested good) (documentIn c) (found-record t s f i c h k e)))

@@ -183,16 +183,16 @@ module _ (t : Table) (s : ℕ) (x y : OriginText) (marks : FrameMarks) (allow sa
 
 -- ---- the load
 
-pub loads-at : (t : Table) (p : FramePlace) (x y : OriginText) (h o allow : Text) (marks : FrameMarks) (sandbox src : Text) (c : Document) (new : NewDocument) (u : Table)
-    → IsRecordAt t (p .container) c → IsFramedDocument c x o h y (attributes allow marks sandbox src) (p .serial) new → Pushes t (new .document) u
-    → LoadsAt t p x y h o (attributes allow marks sandbox src) (record { answer = loading.Loaded (record { serial = p .serial; malformed = new .malformed }); table = u })
-loads-at t p x y h o allow marks sandbox src c new u at made pushes =
+pub loads-at : (t : Table) (p : FramePlace) (h o allow : Text) (marks : FrameMarks) (sandbox src : Text) (c : Document) (new : NewDocument) (u : Table)
+    → IsRecordAt t (p .container) c → IsFramedDocument c o h (attributes allow marks sandbox src) (p .serial) new → Pushes t (new .document) u
+    → LoadsAt t p h o (attributes allow marks sandbox src) (record { answer = loading.Loaded (record { serial = p .serial; malformed = new .malformed }); table = u })
+loads-at t p h o allow marks sandbox src c new u at made pushes =
     let a = attributes allow marks sandbox src in
     record {
-      says = λ s valid read read-src le here.
+      says = λ s valid le here.
           let above : length (documentIn c .identity .above) < documentLimit = subst (λ (d : Document). length (documentIn d .identity .above) < documentLimit) (sym (at .is (here .has .place))) (here .above) in
           let loads = subst (λ (d : Document). outcome (framedLoad s h o a) (view t) ≡ loadOf (view t) (isMalformed h) (framedDocument (documentIn d) h a) (framedIdentity (documentIn d .identity) a (originOf o))) (sym (at .is (here .has .place))) (here .loads) in
-          accepted-load (framedLoad s h o a) t u (new .document) (isMalformed h) (new .malformed) (p .serial) (framedDocument (documentIn c) h a) (framedIdentity (documentIn c .identity) a (originOf o)) valid loads (here .has .room) (here .has .left) (here .serial) (made .malformed le) (made .says le (at .deep) above read read-src) (pushes .pushed (here .has .room) (here .has .left) (made .depth));
+          accepted-load (framedLoad s h o a) t u (new .document) (isMalformed h) (new .malformed) (p .serial) (framedDocument (documentIn c) h a) (framedIdentity (documentIn c .identity) a (originOf o)) valid loads (here .has .room) (here .has .left) (here .serial) (made .malformed le) (made .says le (at .deep) above) (pushes .pushed (here .has .room) (here .has .left) (made .depth));
     }
 
 module _ (t : Table) (s : ℕ) (h o allow : Text) (marks : FrameMarks) (sandbox src : Text) (x y : OriginText) (read : x ≡ originAs (originOf o)) (read-src : y ≡ originAs (originOf src)) (r : FrameRoom) (is : IsAdmitted t s x y marks allow sandbox h r) where
@@ -202,7 +202,7 @@ module _ (t : Table) (s : ℕ) (h o allow : Text) (marks : FrameMarks) (sandbox 
   pub framed-place : (p : FramePlace) → r ≡ frame.At p → HasPlace t p
   framed-place p e = is .places p e o src read read-src .0 .has
 
-  pub framed-accepted : (p : FramePlace) (l : Loading) → Valid t → r ≡ frame.At p → LoadsAt t p x y h o (attributes allow marks sandbox src) l → Loads (framedLoad s h o (attributes allow marks sandbox src)) t l
+  pub framed-accepted : (p : FramePlace) (l : Loading) → Valid t → r ≡ frame.At p → LoadsAt t p h o (attributes allow marks sandbox src) l → Loads (framedLoad s h o (attributes allow marks sandbox src)) t l
   framed-accepted p l valid e at =
       let here = is .places p e o src read read-src in
-      at .says s valid read read-src (here .1) (here .0)
+      at .says s valid (here .1) (here .0)

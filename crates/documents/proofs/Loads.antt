@@ -101,7 +101,7 @@ module _ (t : Table) (h o : Text) (valid : Valid t) where
       pub top-refused : (n : Refusal) → r ≡ room.Refused n → Loads (topLoad h o) t (record { answer = loading.Refused n; table = t })
       top-refused n k = refused-load (topLoad h o) t n valid (top-is-load ∙ is .none n k (isMalformed h) (topDocument h) (topIdentity (originOf o)))
 
-      pub top-accepted : (n : ℕ) (new : NewDocument) (u : Table) → r ≡ room.Serial n → IsTopDocument x o h n new → Pushes t (new .document) u
+      pub top-accepted : (n : ℕ) (new : NewDocument) (u : Table) → r ≡ room.Serial n → IsTopDocument o h n new → Pushes t (new .document) u
           → Loads (topLoad h o) t (record { answer = loading.Loaded (record { serial = n; malformed = new .malformed }); table = u })
       top-accepted n new u k top p =
-          accepted-load (topLoad h o) t u (new .document) (isMalformed h) (new .malformed) n (topDocument h) (topIdentity (originOf o)) valid top-is-load (is .serial n k .1) (is .serial n k .2) (is .serial n k .0) (top .malformed le) (top .says le read) (p .pushed (is .serial n k .1) (is .serial n k .2) (top .depth))
+          accepted-load (topLoad h o) t u (new .document) (isMalformed h) (new .malformed) n (topDocument h) (topIdentity (originOf o)) valid top-is-load (is .serial n k .1) (is .serial n k .2) (is .serial n k .0) (top .malformed le) (top .says le) (p .pushed (is .serial n k .1) (is .serial n k .2) (top .depth))

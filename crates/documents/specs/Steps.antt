@@ -102,5 +102,5 @@ pub record IsAdmitted (t : Table) (s : ℕ) (x y : OriginText) (marks : FrameMar
   pub places : (p : FramePlace) → r ≡ frame.At p → (o src : Text) → x ≡ originAs (originOf o) → y ≡ originAs (originOf src) → IsFramePlace t s h o (attributes allow marks sandbox src) p × (length h ≤ textBytes)
 
 -- the load at a place where it goes
-pub record LoadsAt (t : Table) (p : FramePlace) (x y : OriginText) (h o : Text) (a : Attributes) (r : Loading) : Type 0 where
-  pub says : (s : ℕ) → Valid t → x ≡ originAs (originOf o) → y ≡ originAs (originOf (a .src)) → length h ≤ textBytes → IsFramePlace t s h o a p → Loads (framedLoad s h o a) t r
+pub record LoadsAt (t : Table) (p : FramePlace) (h o : Text) (a : Attributes) (r : Loading) : Type 0 where
+  pub says : (s : ℕ) → Valid t → length h ≤ textBytes → IsFramePlace t s h o a p → Loads (framedLoad s h o a) t r

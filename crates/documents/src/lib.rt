@@ -235,7 +235,7 @@ pub fn forecast(
     match document_table::find(t, container) {
         Found::At(i) => {
             let c = document_table::document_at(t, i);
-            FeaturesAnswer::Features(document_loads::foretold(c, said, src, marks, allow, sandbox))
+            FeaturesAnswer::Features(document_loads::foretold(c, src, marks, allow, sandbox))
         }
         Found::None => FeaturesAnswer::Refused(Refusal::NotLoaded),
     }
@@ -296,7 +296,7 @@ pub fn load_top(t: Table, origin: &[u8], header: &[u8]) -> Loading
             table: t,
         },
         Room::Serial(n) => {
-            let new = document_loads::top_document(n, said, origin, header);
+            let new = document_loads::top_document(n, origin, header);
             let d = new.document;
             let u = document_table::push(t, d);
             Loading {
@@ -404,9 +404,7 @@ fn frame_admitted(
 fn load_at(
     t: Table,
     p: FramePlace,
-    said: OriginText,
     origin: &[u8],
-    src_said: OriginText,
     src: &[u8],
     marks: FrameMarks,
     allow: &[u8],
@@ -414,16 +412,14 @@ fn load_at(
     header: &[u8],
 ) -> Loading
     requires { ⌜ HasPlace t p ⌝ }
-    ensures { λ r. ⌜ LoadsAt t p said «src_said» (now (header .entry)) (now (origin .entry)) (attributes (now (allow .entry)) marks (now (sandbox .entry)) (now (src .entry))) r ⌝ }
+    ensures { λ r. ⌜ LoadsAt t p (now (header .entry)) (now (origin .entry)) (attributes (now (allow .entry)) marks (now (sandbox .entry)) (now (src .entry))) r ⌝ }
 {
     let c = document_table::document_at(t, p.container);
     let serial = p.serial;
     let new = document_loads::framed_document(
         c,
         serial,
-        said,
         origin,
-        src_said,
         src,
         marks,
         allow,
@@ -462,17 +458,6 @@ pub fn load_framed(
             answer: LoadAnswer::Refused(n),
             table: t,
         },
-        FrameRoom::At(p) => load_at(
-            t,
-            p,
-            said,
-            origin,
-            src_said,
-            src,
-            marks,
-            allow,
-            sandbox,
-            header,
-        ),
+        FrameRoom::At(p) => load_at(t, p, origin, src, marks, allow, sandbox, header),
     }
 }
