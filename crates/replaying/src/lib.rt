@@ -1,6 +1,6 @@
 // A replayed session: calls on one new table from standard input, a line each, and their answers on standard output.
 ghost use Prim.Native.Nat.{_≤_};
-ghost use Rattle.replaying.specs.Sessions.{outBytes, Ready};
+ghost use Rattle.replaying.specs.Sessions.{outBytes, Ready, Ends};
 use ascii::Class;
 use document_table::Table;
 use replay_lines::LINE_BYTES;
@@ -38,7 +38,7 @@ fn flush(out: &[u8; OUT_BYTES], waiting: usize) -> bool
 // The line ends: its call is made, and its answer put behind those that wait; these are written where the next might not have room.
 fn end_line(s: Session, texts: &[u8; LINE_BYTES], out: &mut [u8; OUT_BYTES]) -> Session
     requires { ⌜ Ready s ⌝ }
-    ensures { λ r. ⌜ Ready r ⌝ }
+    ensures { λ r. ⌜ Ends s (now (texts .entry)) (now (out .entry)) (now (out .exit)) r ⌝ }
 {
     let state = s.line;
     let t = s.table;
