@@ -97,13 +97,33 @@ fn main() {
     let a = r.answer;
     tell_load(b"a document at the top", a);
     let one = r.table;
-    let two = frame(b"mark clear, sandbox text of 1,025 bytes", one, false, &long);
+    let two = frame(
+        b"mark clear, sandbox text of 1,025 bytes",
+        one,
+        false,
+        &long,
+    );
     foretell(b"its forecast", two, false, &long);
-    let three = frame(b"mark clear, sandbox text of 1,024 bytes", two, false, &long[..1024]);
+    let three = frame(
+        b"mark clear, sandbox text of 1,024 bytes",
+        two,
+        false,
+        &long[..1024],
+    );
     foretell(b"its forecast", three, false, &long[..1024]);
     let four = frame(b"mark set, sandbox text of 1,025 bytes", three, true, &long);
-    let five = frame(b"mark set, sandbox text of 1,024 bytes", four, true, &long[..1024]);
-    let six = frame(b"mark clear, `allow-same-origin` not read", five, false, b"allow-same-origin");
+    let five = frame(
+        b"mark set, sandbox text of 1,024 bytes",
+        four,
+        true,
+        &long[..1024],
+    );
+    let six = frame(
+        b"mark clear, `allow-same-origin` not read",
+        five,
+        false,
+        b"allow-same-origin",
+    );
     let mut short = [7u32; 1];
     list(b"a listing of two in one place", six, &mut short);
     let mut enough = [7u32; 2];
