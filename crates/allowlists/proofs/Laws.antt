@@ -12,7 +12,7 @@ use Rattle.origins.specs.Origins.Origin.{opaque, fresh}
 use Rattle.origins.specs.Expressions.{SourceExpression}
 use Rattle.origins.specs.Matching.{admits, sameOrigin}
 use Rattle.origins.proofs.Laws.{admits-fresh, admits-opaque, fresh-right}
-use Rattle.allowlists.specs.Allowlists.{Allowlist, Meaning, isStar, isSelf, isSrc, sourceMeaning, withSource, someIs, hasStar, hasSelf, hasSrc, sourcesOf, allowlist, allowlistOf, anyAdmits, listAdmits, allows, someAdmits, meaningAdmits}
+use Rattle.allowlists.specs.Allowlists.{Allowlist, emptyList, Meaning, isStar, isSelf, isSrc, sourceMeaning, withSource, someIs, hasStar, hasSelf, hasSrc, sourcesOf, allowlist, allowlistOf, anyAdmits, listAdmits, allows, someAdmits, meaningAdmits}
 use Rattle.allowlists.specs.Allowlists.Allowlist.{all, listed}
 use Rattle.allowlists.specs.Allowlists.Meaning.{star, self, src, source, nothing}
 use Rattle.allowlists.specs.Answers.{admissionAs, admissionIn}
@@ -28,9 +28,9 @@ pub listed-admits : (x y : Bool) (es : List SourceExpression) (a b : Bool) (o : 
 unfolding listAdmits
 listed-admits x y es a b o = refl
 
-pub no-parts : (a b : Bool) (o : Origin) → listAdmits (listed false false []) a b o ≡ false
+pub empty-list : (a b : Bool) (o : Origin) → listAdmits emptyList a b o ≡ false
 unfolding listAdmits anyAdmits
-no-parts a b o = refl
+empty-list a b o = refl
 
 pub any-nil : (o : Origin) → anyAdmits [] o ≡ false
 unfolding anyAdmits
@@ -298,9 +298,3 @@ wider-self l = record { keeps = λ a b o e. e }
 pub as-wide-self : (d : Option Allowlist) → AsWide d d
 as-wide-self (some l) = both (wider-self l)
 as-wide-self none = neither
-
--- a list that admits an origin still does where it is as wide
-pub as-wide-admits : {c d : Option Allowlist} (a b : Bool) (o : Origin) → AsWide c d → someAdmits c a b o ≡ some true → someAdmits d a b o ≡ some true
-unfolding someAdmits
-as-wide-admits a b o neither e = e
-as-wide-admits a b o (both {l = l} w) e = let f : listAdmits l a b o ≡ true = cc in ap some (w .keeps a b o f)

@@ -13,6 +13,10 @@ pub data Allowlist : Type 0 where
   all : Allowlist
   listed : Bool → Bool → List SourceExpression → Allowlist
 
+-- the list that has nothing
+abbrev pub emptyList : Allowlist
+emptyList = listed false false []
+
 -- what an item or a word means: `*`, the self-origin, the src-origin, an expression, or nothing
 pub data Meaning : Type 0 where
   star : Meaning

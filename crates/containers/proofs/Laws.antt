@@ -12,16 +12,16 @@ use Rattle.features.specs.Computing.{computing}
 use Rattle.origins.specs.Origins.{Origin, TupleOrigin, OriginSaid, originOf}
 use Rattle.origins.specs.Origins.Origin.{tuple, fresh}
 use Rattle.origins.specs.Origins.OriginSaid.{saysEmpty, saysNull, saysTuple, noOrigin}
-use Rattle.allowlists.specs.Allowlists.{Allowlist}
+use Rattle.allowlists.specs.Allowlists.{Allowlist, emptyList}
 use Rattle.allowlists.specs.Allowlists.Meaning.{src}
 use Rattle.allowlists.specs.Widening.{AsWide}
-use Rattle.allowlists.specs.Widening.AsWide.{neither, both}
+use Rattle.allowlists.specs.Widening.AsWide.{neither, both, from-empty}
 use Rattle.allowlists.proofs.Laws.{as-wide-self}
 use Rattle.pieces.proofs.Laws.{empty-entry, Grown, entry-grown, word-wider}
 use Rattle.pieces.proofs.Laws.Grown.{same, grown}
 use Rattle.containers.specs.Attributes.{Attributes}
-use Rattle.containers.specs.Policies.{isSemicolon, fullscreen, entryElse, allowedFullscreen, allowPolicy, containerPolicy}
-use Rattle.containers.specs.Sandboxes.{sandboxes, isSandboxed, srcOrigin, freshIf, declaredOrigin}
+use Rattle.containers.specs.Policies.{isSemicolon, fullscreen, plugins, entryElse, allowedFullscreen, hasDefaultStar, keywordOf, keywordStands, sandboxCloses, closesPlugins, attributePolicy, containerPolicy}
+use Rattle.containers.specs.Sandboxes.{sandboxWords, sandboxes, isSandboxed, srcOrigin, freshIf, declaredOrigin}
 use Rattle.containers.specs.Widening.{WordMore}
 use Rattle.containers.specs.Widening.WordMore.{word-more}
 
@@ -30,14 +30,18 @@ pub fullscreen-name : nameOf fullscreen ≡ text "fullscreen"
 unfolding computing
 fullscreen-name = refl
 
--- the container policy is what allow and allowfullscreen give
-pub policy-allow : (a : Attributes) (n : ℕ) → containerPolicy a n ≡ allowPolicy (a .allow) (a .allowfullscreen) n
+pub plugins-name : nameOf plugins ≡ text "plugins"
+unfolding computing
+plugins-name = refl
+
+-- the container policy is what allow, allowfullscreen and the sandbox attribute give
+pub policy-attributes : (a : Attributes) (n : ℕ) → containerPolicy a n ≡ attributePolicy (a .allow) (a .allowfullscreen) (sandboxWords (a .hasSandbox) (a .sandbox)) n
 unfolding containerPolicy
-policy-allow a n = refl
+policy-attributes a n = refl
 
 -- an empty allow attribute gives no list, as an absent one
-pub empty-policy : (n : ℕ) → allowPolicy [] false n ≡ none
-unfolding allowPolicy entryElse allowedFullscreen pick
+pub empty-policy : (n : ℕ) → attributePolicy [] false none n ≡ none
+unfolding attributePolicy closesPlugins sandboxCloses entryElse allowedFullscreen pick
 empty-policy n = rw (empty-entry isSemicolon n)
 
 -- a frame's document is sandboxed by the container document or by the attributes
@@ -94,9 +98,14 @@ unfolding entryElse
 grown-wide other (same {e = e}) = as-wide-self (entryElse other e)
 grown-wide other (grown front back w h) = both (word-wider src front back w h)
 
+same-closed : (b : Bool) {d e : Option Allowlist} → AsWide d e → AsWide (pick b (some emptyList) d) (pick b (some emptyList) e)
+unfolding pick
+same-closed true w = from-empty
+same-closed false w = w
+
 pub word-as-wide : {a b : Attributes} → WordMore a b → (n : ℕ) → AsWide (containerPolicy a n) (containerPolicy b n)
-unfolding containerPolicy allowPolicy
-word-as-wide (word-more {x = x} {y = y} {fullscreen = mark} o) n = grown-wide (allowedFullscreen mark n) (entry-grown isSemicolon x y o n)
+unfolding containerPolicy attributePolicy
+word-as-wide (word-more {x = x} {y = y} o) n = same-closed _ (grown-wide _ (entry-grown isSemicolon x y o n))
 
 -- and the document is sandboxed in both or in neither, with the same declared origin
 pub word-sandboxed : {a b : Attributes} → WordMore a b → (above : Bool) → isSandboxed above a ≡ isSandboxed above b

@@ -1,6 +1,6 @@
 pub mod Attributes
-pub mod Policies
 pub mod Sandboxes
+pub mod Policies
 pub mod Answers
 pub mod Widening
 pub mod Computing

@@ -1,22 +1,32 @@
 // A frame's attributes: allow, allowfullscreen and sandbox; the container policy and the declared origin.
 ghost use mathlib.Core.Path.{_≡_};
+ghost use mathlib.Core.Bool.{_&&_};
+ghost use lib.Dec.{eqb};
 ghost use Rattle.origins.specs.Answers.{originIn};
 ghost use Rattle.allowlists.specs.Allowlists.{someAdmits};
 ghost use Rattle.allowlists.specs.Answers.{admissionAs};
-ghost use Rattle.containers.specs.Answers.{policyIn, policyAs, IsPolicies, IsSandboxed, IsDeclared};
+ghost use Rattle.containers.specs.Policies.{fullscreen, sandboxCloses};
+ghost use Rattle.containers.specs.Sandboxes.{sandboxWords};
+ghost use Rattle.containers.specs.Answers.{policyIn, unnamedAs, featureAs, IsKeyword, IsPolicies, IsSandboxed, IsDeclared};
 use allowlists::Admission;
 use ascii::Class;
 use ascii::TextRange;
+use features::DefaultOf;
 use origins::OriginRange;
 use origins::OriginText;
 use origins::TupleRange;
 use pieces::Bare;
 use pieces::EntryFound;
 
-// The number of the feature `fullscreen`.
-pub const FULLSCREEN: usize = 4;
+// The numbers of the features `fullscreen` and `plugins`.
+pub const FULLSCREEN: u32 = 4;
 
-// What a frame's attributes give a feature: no list, `*`, the empty list (allow and allowfullscreen never give it), or the list of an entry, as a range of the allow attribute.
+pub const PLUGINS: u32 = 10;
+
+// The longest keyword, in bytes: `allow-` and a name.
+const KEYWORD_BYTES: usize = 6 + features::NAME_BYTES;
+
+// What a frame's attributes give a feature: no list, `*`, the empty list (of the sandbox attribute), or the list of an entry, as a range of the allow attribute.
 pub enum ContainerPolicy {
     None,
     All,
@@ -32,32 +42,103 @@ pub enum DeclaredOrigin {
     NotAnOrigin,
 }
 
-// The policy of a feature by its entry; `star`: without one it gets `*`.
-fn entry_policy(e: EntryFound, star: bool) -> ContainerPolicy
-    ensures { λ r. ⌜ r ≡ policyAs star e ⌝ }
+// A sandbox keyword: the first `len` of `bytes`.
+struct Keyword {
+    bytes: [u8; KEYWORD_BYTES],
+    len: usize,
+}
+
+// `allow-` and the name of a feature.
+fn keyword_of(n: u32) -> Keyword
+    ensures { λ r. ⌜ IsKeyword n r ⌝ }
 {
-    match e {
-        EntryFound::Words(w) => ContainerPolicy::Words(w),
-        EntryFound::None => {
-            if star {
-                ContainerPolicy::All
-            } else {
-                ContainerPolicy::None
+    let name = features::name_of(n);
+    let letters = name.bytes;
+    let len = name.len;
+    let mut bytes = *b"allow-                                 ";
+    let mut i: usize = 0;
+    while i < len {
+        bytes[6 + i] = letters[i];
+        i += 1;
+    }
+    Keyword { bytes, len: 6 + i }
+}
+
+// Whether a sandbox attribute closes a feature that allow doesn't name: one with default `*` whose keyword doesn't stand; plugins has none.
+fn sandbox_closes(has_sandbox: bool, sandbox: &[u8], n: u32) -> bool
+    ensures { λ r. ⌜ r ≡ sandboxCloses (sandboxWords «has_sandbox» (now (sandbox .entry))) n ⌝ }
+{
+    if !has_sandbox {
+        return false;
+    }
+    match features::default_of(n) {
+        DefaultOf::All => {
+            if n == PLUGINS {
+                return true;
             }
+            let k = keyword_of(n);
+            let bytes = k.bytes;
+            let len = k.len;
+            !pieces::has_keyword(sandbox, &bytes[..len])
         }
+        DefaultOf::SelfOnly => false,
+        DefaultOf::NoSuchFeature => false,
     }
 }
 
-// What an allow attribute and allowfullscreen give each feature.
-pub fn allow_policies(allow: &[u8], allowfullscreen: bool) -> [ContainerPolicy; features::COUNT]
-    ensures { λ r. ⌜ IsPolicies (now (allow .entry)) allowfullscreen r ⌝ }
+// The policy of a feature that allow doesn't name.
+fn unnamed_policy(
+    n: u32,
+    allowfullscreen: bool,
+    has_sandbox: bool,
+    sandbox: &[u8],
+) -> ContainerPolicy
+    ensures { λ r. ⌜ r ≡ unnamedAs (sandboxCloses (sandboxWords «has_sandbox» (now (sandbox .entry))) n) (allowfullscreen && eqb n fullscreen) ⌝ }
+{
+    if sandbox_closes(has_sandbox, sandbox, n) {
+        return ContainerPolicy::Empty;
+    }
+    if allowfullscreen & (n == FULLSCREEN) {
+        ContainerPolicy::All
+    } else {
+        ContainerPolicy::None
+    }
+}
+
+// The policy of a feature by its entry; under sandbox no entry opens plugins.
+fn feature_policy(
+    e: EntryFound,
+    n: u32,
+    allowfullscreen: bool,
+    has_sandbox: bool,
+    sandbox: &[u8],
+) -> ContainerPolicy
+    ensures { λ r. ⌜ r ≡ featureAs allowfullscreen (sandboxWords «has_sandbox» (now (sandbox .entry))) n e ⌝ }
+{
+    if has_sandbox & (n == PLUGINS) {
+        return ContainerPolicy::Empty;
+    }
+    match e {
+        EntryFound::Words(w) => ContainerPolicy::Words(w),
+        EntryFound::None => unnamed_policy(n, allowfullscreen, has_sandbox, sandbox),
+    }
+}
+
+// What a frame's attributes give each feature; the sandbox text is not read where no sandbox attribute stands.
+pub fn container_policies(
+    allow: &[u8],
+    allowfullscreen: bool,
+    has_sandbox: bool,
+    sandbox: &[u8],
+) -> [ContainerPolicy; features::COUNT]
+    ensures { λ r. ⌜ IsPolicies (now (allow .entry)) allowfullscreen (sandboxWords «has_sandbox» (now (sandbox .entry))) r ⌝ }
 {
     let found = pieces::entries(allow, Class::Not(b';'));
     let mut policies = [ContainerPolicy::None; features::COUNT];
     let mut i: usize = 0;
     while i < features::COUNT {
         let e = found[i];
-        policies[i] = entry_policy(e, allowfullscreen & (i == FULLSCREEN));
+        policies[i] = feature_policy(e, i as u32, allowfullscreen, has_sandbox, sandbox);
         i += 1;
     }
     policies

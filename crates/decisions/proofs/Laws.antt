@@ -19,13 +19,13 @@ use Rattle.origins.specs.Origins.{Origin}
 use Rattle.origins.specs.Origins.Origin.{tuple, opaque, fresh}
 use Rattle.origins.specs.Matching.{sameOrigin}
 use Rattle.origins.proofs.Laws.{tuple-self, opaque-self, fresh-left, fresh-right}
-use Rattle.allowlists.specs.Allowlists.{Allowlist, listAdmits, allows, someAdmits}
+use Rattle.allowlists.specs.Allowlists.{Allowlist, emptyList, listAdmits, allows, someAdmits}
 use Rattle.allowlists.specs.Allowlists.Allowlist.{all, listed}
 use Rattle.allowlists.specs.Answers.{admissionAs, admissionIn}
 use Rattle.allowlists.specs.Widening.{AsWide}
-use Rattle.allowlists.specs.Widening.AsWide.{neither, both}
+use Rattle.allowlists.specs.Widening.AsWide.{neither, both, from-empty}
 use Rattle.allowlists.specs.declared.Admission.{Admission}
-use Rattle.allowlists.proofs.Laws.{all-admits, some-admits, none-admits, admission-back, fresh-all, opaque-all, allows-fresh, allows-opaque, as-wide-self}
+use Rattle.allowlists.proofs.Laws.{all-admits, empty-list, some-admits, none-admits, admission-back, fresh-all, opaque-all, allows-fresh, allows-opaque, as-wide-self}
 use Rattle.declarations.specs.Declarations.{declaredAdmits}
 use Rattle.declarations.proofs.Laws.{declared-some, declared-none, declared-told, declared-fresh, declared-opaque}
 use Rattle.decisions.specs.Decisions.{Decision, decided, unlessDisabled, byList, byDefault, valueBy, inheritedBy, inheritedTop, questionBy}
@@ -242,24 +242,31 @@ unless-keeps enabled d e f h g k = rw (h refl) (g k)
 unless-stays : {c d e f : Decision} → Stays c d → Stays e f → Stays (unlessDisabled c e) (unlessDisabled d f)
 unless-stays {c} {d} {e} {f} h g = record { keeps = unless-keeps c d e f (λ k. h .keeps k) (λ k. g .keeps k) }
 
--- two answers of lists: neither has one, or both have and the second admits if the first does
+-- two answers of lists: neither has one; or both have and the second admits if the first does; or the first has one that doesn't admit
 data Follows : Option Bool → Option Bool → Type 0 where
   no-lists : Follows none none
   lists : {a b : Bool} → (a ≡ true → b ≡ true) → Follows (some a) (some b)
+  from-not : {b : Option Bool} → Follows (some false) b
 
 decided-keeps : (a b : Bool) → (a ≡ true → b ≡ true) → decided a ≡ enabled → decided b ≡ enabled
 unfolding decided
 decided-keeps true b h k = rw (h refl)
 decided-keeps false b h k = clash cc
 
+not-decided : {d : Decision} → decided false ≡ enabled → d ≡ enabled
+unfolding decided
+not-decided k = clash cc
+
 list-stays : {a b : Option Bool} (d : Decision) → Follows a b → Stays (byList a d) (byList b d)
 unfolding byList
 list-stays d no-lists = stays-self d
 list-stays d (lists {a} {b} h) = record { keeps = decided-keeps a b h }
+list-stays d from-not = record { keeps = λ k. not-decided k }
 
 wide-follows : {a b : Option Allowlist} (x y : Bool) (o : Origin) → AsWide a b → Follows (someAdmits a x y o) (someAdmits b x y o)
 wide-follows x y o neither = rw (none-admits x y o) no-lists
 wide-follows x y o (both {l} {m} w) = rw (some-admits l x y o, some-admits m x y o) (lists (λ e. w .keeps x y o e))
+wide-follows x y o from-empty = rw (some-admits emptyList x y o, empty-list x y o) from-not
 
 declared-follows : {a b : Option Allowlist} (own o : Origin) → AsWide a b → Follows (declaredAdmits a own o) (declaredAdmits b own o)
 declared-follows {a} {b} own o wide = rw (← (declared-told a (sameOrigin own o) own o refl), ← (declared-told b (sameOrigin own o) own o refl)) (wide-follows (sameOrigin own o) false o wide)

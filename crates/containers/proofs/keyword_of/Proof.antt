@@ -1,0 +1,32 @@
+-- `keyword_of` is right: what is copied so far stands past `allow-`.
+use mathlib.Core.Path.{_≡_, refl}
+use Prim.Native.Nat.{_-_, _≤_}
+use native.Mathlib.Omega.{arith}
+use lib.Seq.{paste}
+use Rattle.containers.proofs.Steps.{blank, keyword-next, keyword-is}
+use borrow.Author.Needs.{needs}
+use Rattle.containers.proofs.keyword_of.Statement.{statement}
+use Rattle.containers.proofs.keyword_of.Tie as tie
+
+abbrev Inv-loop : tie.InvT-loop
+Inv-loop n letters len bytes₀ i₀ bytes i = (i ≤ len) × (bytes ≡ paste blank 6 letters i)
+
+abbrev μ-loop : tie.MeasureT-loop
+μ-loop n letters len bytes₀ i₀ bytes i = len - i
+
+pub keyword-of-spec : {M : Type 1} → statement M
+keyword-of-spec =
+    tie.close
+    (tie.spec
+    Inv-loop
+    μ-loop
+    (λ c κs. search needs)
+    (λ c. (omega arith, refl))
+    (λ c. search needs)
+    (λ c. search needs)
+    (λ c. search needs)
+    (λ c. search needs)
+    (λ c. omega arith)
+    (λ c. (omega arith, search keyword-next))
+    (λ c. search needs)
+    (λ c. search keyword-is))
