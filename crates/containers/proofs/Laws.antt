@@ -1,14 +1,21 @@
 -- The laws of a frame's attributes, for the crates above, which open no definition of this crate. Assumes nothing.
 use mathlib.Core.Path.{_≡_, refl, ap, _∙_, sym}
 use Prim.Native.Nat.{ℕ}
-use mathlib.Core.List.{List, []}
-use mathlib.Core.Bool.{Bool, true, false, _||_}
+use mathlib.Core.List.{List, [], _∷_, _++_}
+use mathlib.Core.Bool.{Bool, true, false, not, _&&_, _||_}
 use mathlib.Core.Option.{Option, some, none}
-use Rattle.ascii.specs.Bytes.{pick}
+use native.Mathlib.Omega.{arith}
+use lib.Dec.{eqb, ltb}
+use lib.ListN.{drop}
+use borrow.Author.Tests.{ltb-true, ltb-false}
+use Rattle.ascii.specs.Bytes.{pick, lower}
 use Rattle.ascii.specs.Literals.{text}
+use Rattle.ascii.specs.Texts.{sameLowered}
 use Rattle.ascii.proofs.Clash.{clash}
-use Rattle.features.specs.Features.{nameOf}
+use Rattle.ascii.proofs.Texts.{same-is}
+use Rattle.features.specs.Features.{featureCount, nameOf, featureOf}
 use Rattle.features.specs.Computing.{computing}
+use Rattle.features.proofs.Laws.{unknown, name-none}
 use Rattle.origins.specs.Origins.{Origin, TupleOrigin, OriginSaid, originOf}
 use Rattle.origins.specs.Origins.Origin.{tuple, fresh}
 use Rattle.origins.specs.Origins.OriginSaid.{saysEmpty, saysNull, saysTuple, noOrigin}
@@ -17,13 +24,16 @@ use Rattle.allowlists.specs.Allowlists.Meaning.{src}
 use Rattle.allowlists.specs.Widening.{AsWide}
 use Rattle.allowlists.specs.Widening.AsWide.{neither, both, from-empty}
 use Rattle.allowlists.proofs.Laws.{as-wide-self}
-use Rattle.pieces.proofs.Laws.{empty-entry, Grown, entry-grown, word-wider}
+use Rattle.pieces.specs.Pieces.{words, hasKeyword, entryOf}
+use Rattle.pieces.specs.Words.{entryList}
+use Rattle.pieces.proofs.Laws.{empty-entry, Grown, entry-grown, word-wider, keyword-more as more-words, keyword-other}
 use Rattle.pieces.proofs.Laws.Grown.{same, grown}
 use Rattle.containers.specs.Attributes.{Attributes}
 use Rattle.containers.specs.Policies.{isSemicolon, fullscreen, plugins, entryElse, allowedFullscreen, hasDefaultStar, keywordOf, keywordStands, sandboxCloses, closesPlugins, attributePolicy, containerPolicy}
-use Rattle.containers.specs.Sandboxes.{sandboxWords, sandboxes, isSandboxed, srcOrigin, freshIf, declaredOrigin}
-use Rattle.containers.specs.Widening.{WordMore}
+use Rattle.containers.specs.Sandboxes.{sandboxWords, allowSameOrigin, withoutSameOrigin, sandboxes, isSandboxed, srcOrigin, freshIf, declaredOrigin}
+use Rattle.containers.specs.Widening.{WordMore, OneKeywordMore, KeywordMore}
 use Rattle.containers.specs.Widening.WordMore.{word-more}
+use Rattle.containers.specs.Widening.KeywordMore.{keyword-more}
 
 -- the number of `fullscreen` is that of its name
 pub fullscreen-name : nameOf fullscreen ≡ text "fullscreen"
@@ -115,3 +125,83 @@ word-sandboxed (word-more o) above = refl
 pub word-declared : {a b : Attributes} → WordMore a b → (above : Bool) (container : Origin) → declaredOrigin above a container ≡ declaredOrigin above b container
 unfolding declaredOrigin isSandboxed
 word-declared (word-more o) above container = refl
+
+-- ---- one keyword more in a sandbox attribute
+
+-- `allow-same-origin` is no feature's keyword
+same-origin-name : (n : ℕ) → nameOf n ≡ text "same-origin" → ⊥
+same-origin-name n e = go (ltb n featureCount) refl
+  where
+    no-feature : featureOf (text "same-origin") ≡ none
+    no-feature = unfold computing in refl
+
+    go : (b : Bool) → ltb n featureCount ≡ b → ⊥
+    go true t = unknown (text "same-origin") n no-feature (omega (arith, ltb-true)) (sym e)
+    go false t = let f : nameOf n ≡ [] = name-none n (omega (arith, ltb-false)) in clash cc
+
+pub same-origin-keyword : (n : ℕ) → keywordOf n ≡ some allowSameOrigin → ⊥
+unfolding keywordOf
+same-origin-keyword n = go (hasDefaultStar n && not (eqb n plugins))
+  where
+    named : some (text "allow-" ++ nameOf n) ≡ some allowSameOrigin → ⊥
+    named e = let q : text "allow-" ++ nameOf n ≡ allowSameOrigin = cc in same-origin-name n (ap (drop 6) q)
+
+    go : (b : Bool) → pick b (some (text "allow-" ++ nameOf n)) none ≡ some allowSameOrigin → ⊥
+    go true e = named (unfold pick in e)
+    go false e = clash (unfold pick in cc)
+
+module _ {s t : List ℕ} (o : OneKeywordMore s t) where
+  -- the added word isn't `allow-same-origin`
+  other : sameLowered (o .word) allowSameOrigin ≡ false
+  other = go (sameLowered (o .word) allowSameOrigin) refl
+    where
+      go : (b : Bool) → sameLowered (o .word) allowSameOrigin ≡ b → b ≡ false
+      go true e =
+          let q : o .keyword ≡ allowSameOrigin = sym (same-is lower (o .word) (o .keyword) (o .any-case)) ∙ same-is lower (o .word) allowSameOrigin e in
+          absurd (same-origin-keyword (o .feature) (o .is-keyword ∙ ap some q))
+      go false e = refl
+
+  same-origin-stays : hasKeyword allowSameOrigin (words s) ≡ hasKeyword allowSameOrigin (words t)
+  same-origin-stays = rw (o .first, o .second) (sym (keyword-other allowSameOrigin (o .front) (o .back) (o .word) other))
+
+  -- a keyword that stood still stands
+  still-stands : (k : Option (List ℕ)) → keywordStands k (words s) ≡ true → keywordStands k (words t) ≡ true
+  unfolding keywordStands
+  still-stands (some k) e = rw (o .second) (more-words k (o .front) (o .back) (o .word) (rw (o .first) at e))
+  still-stands none e = e
+
+  -- so what the second closes the first closes
+  fewer-closed : (n : ℕ) → sandboxCloses (some (words s)) n ≡ false → sandboxCloses (some (words t)) n ≡ false
+  unfolding sandboxCloses
+  fewer-closed n = go (hasDefaultStar n) (keywordStands (keywordOf n) (words s)) (keywordStands (keywordOf n) (words t)) (still-stands (keywordOf n))
+    where
+      go : (a b c : Bool) → (b ≡ true → c ≡ true) → a && not b ≡ false → a && not c ≡ false
+      go false b c h e = refl
+      go true true c h e = rw (h refl)
+      go true false c h e = clash cc
+
+  less-closed : (mark : Bool) (n : ℕ) → AsWide (pick (sandboxCloses (some (words s)) n) (some emptyList) (allowedFullscreen mark n)) (pick (sandboxCloses (some (words t)) n) (some emptyList) (allowedFullscreen mark n))
+  less-closed mark n = go (sandboxCloses (some (words s)) n) (sandboxCloses (some (words t)) n) (fewer-closed n)
+    where
+      go : (a b : Bool) → (a ≡ false → b ≡ false) → AsWide (pick a (some emptyList) (allowedFullscreen mark n)) (pick b (some emptyList) (allowedFullscreen mark n))
+      go true b h = unfold pick in from-empty
+      go false b h = rw (h refl) (as-wide-self _)
+
+else-wide : (e : Option (List (List ℕ))) {c d : Option Allowlist} → AsWide c d → AsWide (entryElse c e) (entryElse d e)
+unfolding entryElse
+else-wide (some ws) w = as-wide-self (some (entryList src ws))
+else-wide none w = w
+
+-- no list admits less: a feature that the keyword opens had the empty list
+pub keyword-as-wide : {a b : Attributes} → KeywordMore a b → (n : ℕ) → AsWide (containerPolicy a n) (containerPolicy b n)
+unfolding containerPolicy attributePolicy sandboxWords closesPlugins pick
+keyword-as-wide (keyword-more {allow = allow} {fullscreen = mark} o) n = same-closed (eqb n plugins) (else-wide (entryOf isSemicolon allow n) (less-closed o mark n))
+
+-- and the document is sandboxed in both or in neither, with the same declared origin
+pub keyword-sandboxed : {a b : Attributes} → KeywordMore a b → (above : Bool) → isSandboxed above a ≡ isSandboxed above b
+unfolding isSandboxed sandboxWords withoutSameOrigin pick
+keyword-sandboxed (keyword-more o) above = ap (λ (k : Bool). above || not k) (same-origin-stays o)
+
+pub keyword-declared : {a b : Attributes} → KeywordMore a b → (above : Bool) (container : Origin) → declaredOrigin above a container ≡ declaredOrigin above b container
+unfolding declaredOrigin
+keyword-declared (keyword-more {src = x} o) above container = ap (λ (k : Bool). freshIf k (srcOrigin (originOf x) container)) (keyword-sandboxed (keyword-more o) above)

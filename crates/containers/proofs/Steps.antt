@@ -135,7 +135,6 @@ module _ (mark stands : Bool) (s : List ℕ) (n : ℕ) where
   unfolding featureAs pick
   feature-unnamed e r t k h = rw (closed-plugins, t, k) h
 
-
 pub ruleset closings = (closes-absent, closes-self, closes-none, closes-plugins, closes-keyword)
 
 -- a semicolon is the byte outside the class of the others

@@ -21,10 +21,11 @@ use Rattle.origins.proofs.Laws.{tuple-self, fresh-left}
 use Rattle.declarations.specs.Declarations.{declares}
 use Rattle.settled.specs.Settled.{declaredIn as settledIn}
 use Rattle.containers.specs.Attributes.{Attributes}
+use Rattle.containers.specs.Sandboxes.{sandboxWords}
 use Rattle.containers.specs.Answers.{IsSandboxed, IsDeclared, declaredIn}
 use Rattle.containers.specs.declared.DeclaredOrigin.{DeclaredOrigin}
 use Rattle.containers.specs.declared.DeclaredOrigin.the-variants as declared
-use Rattle.containers.proofs.Laws.{policy-allow}
+use Rattle.containers.proofs.Laws.{policy-attributes}
 use Rattle.decisions.specs.Masks.{maskOf}
 use Rattle.decisions.specs.Policies.{inheritedIn, forecast}
 use Rattle.decisions.proofs.Laws.{top-mask, forecast-parts}
@@ -94,7 +95,7 @@ pub is-framed : (c : Document) (o h : List ℕ) (n : ℕ) (said x : OriginText) 
     → IsDeclared b x d
     → Arrives said o (c .text) (c .origin) n at
     → IsDeclaredOrigin (ownOrigin c) d src (originIn (at .text) (at .origin)) same
-    → IsInherited (recordPolicy c) allow (marks .allowfullscreen) same (originIn (at .text) (at .origin)) m
+    → IsInherited (recordPolicy c) allow (marks .allowfullscreen) (sandboxWords (marks .«has_sandbox») sandbox) same (originIn (at .text) (at .origin)) m
     → IsAtMost (c .depth) 15 k
     → IsAbove c k above
     → IsFramedDocument c o h (attributes allow marks sandbox src) n
@@ -108,7 +109,7 @@ is-framed c o h n said x allow marks sandbox src b same d at m k above kept read
       says = λ le within room.
           let w : same ≡ sameOrigin (frameDeclared (documentIn c .identity) a) here =
           arrives-declared (ownOrigin c) d src here same is (declaredIn src (ownOrigin c) d) refl ∙ ap (λ (y : Origin). sameOrigin y here) (sym (declared-is c a b x d box ds read-src)) in
-          let bits = i .says f (policy-allow a) w in
+          let bits = i .says f (policy-attributes a) w in
           let boxed : b ≡ frameSandboxed (documentIn c .identity) a = box .says a refl refl ∙ sym (frame-sandboxed (documentIn c .identity) a ∙ rw (document-sandboxed c) refl) in
           let lt : c .depth < documentLimit = shallow c within (up .places) room in
           let deep : k ≡ c .depth = most .whole (omega arith) in
@@ -121,22 +122,22 @@ is-framed c o h n said x allow marks sandbox src b same d at m k above kept read
 -- ---- a forecast
 
 module _ (c : Document) (x : OriginText) (allow : List ℕ) (marks : FrameMarks) (sandbox src : List ℕ) (b : Bool) (d : DeclaredOrigin) (h : IsSandboxed (c .sandboxed) (marks .«has_sandbox») sandbox b) (k : IsDeclared b x d) (e : x ≡ originAs (originOf src)) where
-  foretold-at : (o : Origin) (same : Bool) (r : ℕ) → orFresh (declaredIn src (ownOrigin c) d) ≡ o → same ≡ sameOrigin o o → IsInherited (recordPolicy c) allow (marks .allowfullscreen) same o r → Foretells c (attributes allow marks sandbox src) r
+  foretold-at : (o : Origin) (same : Bool) (r : ℕ) → orFresh (declaredIn src (ownOrigin c) d) ≡ o → same ≡ sameOrigin o o → IsInherited (recordPolicy c) allow (marks .allowfullscreen) (sandboxWords (marks .«has_sandbox») sandbox) same o r → Foretells c (attributes allow marks sandbox src) r
   foretold-at o same r q s i =
       let a = attributes allow marks sandbox src in
       let f = frameOf (documentIn c .identity) a in
       let w : frameDeclared (documentIn c .identity) a ≡ o = declared-is c a b x d h k e ∙ q in
-      i .says f (policy-allow a) (s ∙ ap (λ (y : Origin). sameOrigin y o) (sym w))
+      i .says f (policy-attributes a) (s ∙ ap (λ (y : Origin). sameOrigin y o) (sym w))
       ∙ (ap (λ (y : Origin). maskOf (inheritedIn (recordPolicy c) f y)) (sym w) ∙ sym (forecast-parts (recordPolicy c) f))
 
-  pub foretold-fresh : (r : ℕ) → d ≡ declared.Fresh → IsInherited (recordPolicy c) allow (marks .allowfullscreen) false (originIn src range.Fresh) r → Foretells c (attributes allow marks sandbox src) r
+  pub foretold-fresh : (r : ℕ) → d ≡ declared.Fresh → IsInherited (recordPolicy c) allow (marks .allowfullscreen) (sandboxWords (marks .«has_sandbox») sandbox) false (originIn src range.Fresh) r → Foretells c (attributes allow marks sandbox src) r
   foretold-fresh r q i = foretold-at fresh false r (ap (λ (y : DeclaredOrigin). orFresh (declaredIn src (ownOrigin c) y)) q) (sym (fresh-left fresh)) i
 
-  pub foretold-none : (r : ℕ) → d ≡ declared.NotAnOrigin → IsInherited (recordPolicy c) allow (marks .allowfullscreen) false (originIn src range.Fresh) r → Foretells c (attributes allow marks sandbox src) r
+  pub foretold-none : (r : ℕ) → d ≡ declared.NotAnOrigin → IsInherited (recordPolicy c) allow (marks .allowfullscreen) (sandboxWords (marks .«has_sandbox») sandbox) false (originIn src range.Fresh) r → Foretells c (attributes allow marks sandbox src) r
   foretold-none r q i = foretold-at fresh false r (ap (λ (y : DeclaredOrigin). orFresh (declaredIn src (ownOrigin c) y)) q) (sym (fresh-left fresh)) i
 
-  pub foretold-container : (same : Bool) (r : ℕ) → d ≡ declared.Container → same ≡ sameOrigin (ownOrigin c) (ownOrigin c) → IsInherited (recordPolicy c) allow (marks .allowfullscreen) same (ownOrigin c) r → Foretells c (attributes allow marks sandbox src) r
+  pub foretold-container : (same : Bool) (r : ℕ) → d ≡ declared.Container → same ≡ sameOrigin (ownOrigin c) (ownOrigin c) → IsInherited (recordPolicy c) allow (marks .allowfullscreen) (sandboxWords (marks .«has_sandbox») sandbox) same (ownOrigin c) r → Foretells c (attributes allow marks sandbox src) r
   foretold-container same r q s i = foretold-at (ownOrigin c) same r (ap (λ (y : DeclaredOrigin). orFresh (declaredIn src (ownOrigin c) y)) q) s i
 
-  pub foretold-src : (p : TupleRange) (r : ℕ) → d ≡ declared.Src p → IsInherited (recordPolicy c) allow (marks .allowfullscreen) true (originIn src (range.Tuple p)) r → Foretells c (attributes allow marks sandbox src) r
+  pub foretold-src : (p : TupleRange) (r : ℕ) → d ≡ declared.Src p → IsInherited (recordPolicy c) allow (marks .allowfullscreen) (sandboxWords (marks .«has_sandbox») sandbox) true (originIn src (range.Tuple p)) r → Foretells c (attributes allow marks sandbox src) r
   foretold-src p r q i = foretold-at (tuple (tupleIn src p)) true r (ap (λ (y : DeclaredOrigin). orFresh (declaredIn src (ownOrigin c) y)) q) (sym (tuple-self (tupleIn src p))) i

@@ -183,7 +183,16 @@ pub fn framed_document(
     let own = a.origin;
     let text = a.text;
     let here = document_records::is_declared(c, declared, src, &text, own);
-    let inherited = document_records::inherited(c, allow, marks.allowfullscreen, here, &text, own);
+    let inherited = document_records::inherited(
+        c,
+        allow,
+        marks.allowfullscreen,
+        marks.has_sandbox,
+        sandbox,
+        here,
+        &text,
+        own,
+    );
     let n = at_most(c.depth, DOCUMENTS - 1);
     let above = above_in(c, n);
     let k = settle_header(header);
@@ -214,6 +223,8 @@ pub fn foretold(c: Document, src: &[u8], marks: FrameMarks, allow: &[u8], sandbo
             c,
             allow,
             marks.allowfullscreen,
+            marks.has_sandbox,
+            sandbox,
             false,
             src,
             OriginRange::Fresh,
@@ -222,12 +233,23 @@ pub fn foretold(c: Document, src: &[u8], marks: FrameMarks, allow: &[u8], sandbo
             let text = c.text;
             let own = c.origin;
             let same = document_records::is_own(c, &text, own);
-            document_records::inherited(c, allow, marks.allowfullscreen, same, &text, own)
+            document_records::inherited(
+                c,
+                allow,
+                marks.allowfullscreen,
+                marks.has_sandbox,
+                sandbox,
+                same,
+                &text,
+                own,
+            )
         }
         DeclaredOrigin::Src(r) => document_records::inherited(
             c,
             allow,
             marks.allowfullscreen,
+            marks.has_sandbox,
+            sandbox,
             true,
             src,
             OriginRange::Tuple(r),
@@ -236,6 +258,8 @@ pub fn foretold(c: Document, src: &[u8], marks: FrameMarks, allow: &[u8], sandbo
             c,
             allow,
             marks.allowfullscreen,
+            marks.has_sandbox,
+            sandbox,
             false,
             src,
             OriginRange::Fresh,

@@ -1,4 +1,4 @@
--- Claim 2: one item or word more, and what was Enabled stays Enabled. Each definition that `outcome` is made of has one lemma here, of the same shape. Assumes nothing.
+-- Claim 2: one item, word or keyword more, and what was Enabled stays Enabled. Each definition that `outcome` is made of has one lemma here, of the same shape. Assumes nothing.
 use mathlib.Core.Path.{_≡_, refl, sym, ap, subst, _∙_}
 use Prim.Native.Nat.{ℕ, zero, suc, _+_}
 use mathlib.Core.Bool.{Bool, true, false, not, _||_}
@@ -23,9 +23,10 @@ use Rattle.declarations.specs.Declarations.{declares, isMalformed}
 use Rattle.declarations.proofs.Laws.{item-as-wide, item-good}
 use Rattle.containers.specs.Policies.{containerPolicy}
 use Rattle.containers.specs.Sandboxes.{isSandboxed, declaredOrigin}
-use Rattle.containers.specs.Widening.{WordMore}
+use Rattle.containers.specs.Widening.{WordMore, KeywordMore}
 use Rattle.containers.specs.Widening.WordMore.{word-more}
-use Rattle.containers.proofs.Laws.{word-as-wide, word-sandboxed, word-declared}
+use Rattle.containers.specs.Widening.KeywordMore.{keyword-more}
+use Rattle.containers.proofs.Laws.{word-as-wide, word-sandboxed, word-declared, keyword-as-wide, keyword-sandboxed, keyword-declared}
 use Rattle.decisions.specs.Masks.{decisionAt}
 use Rattle.decisions.specs.Policies.{questionIn, inheritedIn, enabledMask, forecast}
 use Rattle.decisions.specs.Widening as widening
@@ -35,7 +36,7 @@ use Rattle.decisions.proofs.Laws as laws
 use Rattle.document_model.specs.Runs.{Each, no-more, each}
 use Rattle.containers.specs.Attributes.{Attributes}
 use Rattle.document_model.specs.Model.{Text, isGoodOrigin, isNull, askedAt, Identity, Document, valuesFrom, declaredBy, policyOf, frameSandboxed, frameDeclared, orFresh, frameOf, Table, elem, isAtOrBeneath, find, remaining, serialsBeneath, removedCount, Call, topLoad, framedLoad, unload, question, enabledFeatures, listing, forecastOf, Answer, refused, loaded, decision, features, Outcome, refuse, accept, refuseUnless, withDocument, textsFit, load, topIdentity, framedIdentity, topDocument, framedDocument, fittingOutcome, outcome, answerIn, tableIn, answerTo, tableLeft, tableAfter, answers}
-use Rattle.document_model.specs.Claims.{OneMore, item-top, item-framed, word-framed, word-forecast, isAccepted, Keeps, equal, enabled-stays, bits-stay}
+use Rattle.document_model.specs.Claims.{OneMore, item-top, item-framed, word-framed, word-forecast, keyword-framed, keyword-forecast, isAccepted, Keeps, equal, enabled-stays, bits-stay}
 use Rattle.document_model.proofs.TwoRuns.{Follow, two-runs}
 
 -- ---- more
@@ -91,11 +92,19 @@ word-src (word-more w) = refl
 word-attributes : {a b : Attributes} → WordMore a b → AttributesMore a b
 word-attributes w = record { allows-more = word-as-wide w; same-src = word-src w; same-sandboxed = word-sandboxed w; same-declared = word-declared w }
 
+keyword-src : {a b : Attributes} → KeywordMore a b → a .src ≡ b .src
+keyword-src (keyword-more k) = refl
+
+keyword-attributes : {a b : Attributes} → KeywordMore a b → AttributesMore a b
+keyword-attributes k = record { allows-more = keyword-as-wide k; same-src = keyword-src k; same-sandboxed = keyword-sandboxed k; same-declared = keyword-declared k }
+
 pub one-more-shape : {c d : Call} → OneMore c d → ShapeMore c d
 one-more-shape (item-top {h = h} {g = g} i) = top-more (item-header h g i)
 one-more-shape (item-framed {h = h} {g = g} {a = a} i) = framed-more (item-header h g i) (attributes-self a)
 one-more-shape (word-framed {h = h} w) = framed-more (header-self h) (word-attributes w)
 one-more-shape (word-forecast w) = forecast-more (word-attributes w)
+one-more-shape (keyword-framed {h = h} k) = framed-more (header-self h) (keyword-attributes k)
+one-more-shape (keyword-forecast k) = forecast-more (keyword-attributes k)
 
 -- ---- documents
 

@@ -1,19 +1,21 @@
 -- The claims applied to runs: their premises hold of something. Assumes nothing.
-use Rattle.document_model.specs.Examples.{camera, allowing, sandboxing, loads, between, fewerItems, moreItems, item-added, fewerWords, moreWords, word-added, grandchild, framed, top, family}
+use Rattle.document_model.specs.Examples.{camera, allowing, sandboxing, loads, between, fewerItems, moreItems, item-added, fewerWords, moreWords, word-added, grandchild, framed, top, family, fewerKeywords, moreKeywords, keyword-added, boxedFrame, within, boxedFamily, sameOriginRun}
 use mathlib.Core.Path.{_≡_, refl, sym, subst}
 use Prim.Native.Nat.{ℕ, _<_}
 use native.Mathlib.Omega.{arith}
 use mathlib.Core.Bool.{Bool, true, false}
 use mathlib.Core.List.{List, [], _∷_, _++_}
 use Rattle.ascii.specs.Literals.{text}
+use Rattle.ascii.proofs.Clash.{clash}
 use Rattle.origins.specs.Origins.{originOf, nullText}
 use Rattle.containers.specs.Attributes.{Attributes}
 use Rattle.containers.specs.Widening.WordMore.{word-more}
+use Rattle.containers.specs.Widening.KeywordMore.{keyword-more}
 use Rattle.decisions.specs.Decisions.Decision.{disabled, enabled}
-use Rattle.document_model.specs.Runs.{Each}
+use Rattle.document_model.specs.Runs.{Each, no-more, each}
 use Rattle.document_model.specs.Model.{Text, isGoodOrigin, Call, topLoad, framedLoad, unload, question, enabledFeatures, forecastOf, Answer, refused, loaded, removed, decision, features, answers, answerAfter}
 use Rattle.document_model.specs.History.{Event, history, Happened, last, earlier, gave-framed, Framed, framed-by, Unloaded, unloaded, BeneathIn, directly, through, LoadedIn, now, still}
-use Rattle.document_model.specs.Claims.{item-top, word-framed, isAccepted, Keeps, as-src, as-null}
+use Rattle.document_model.specs.Claims.{item-top, word-framed, keyword-framed, isAccepted, Keeps, enabled-stays, as-src, as-null}
 use Rattle.document_model.specs.Computing.{computing}
 use Rattle.document_model.proofs.Claims.{disabled-flows-down, more-never-takes-away, forecast-comes-true}
 
@@ -117,6 +119,28 @@ framed-accepted-more = refl
 word-kept : Each Keeps (answers (family [] fewerWords)) (answers (family [] moreWords))
 word-kept = more-never-takes-away (top [] ∷ []) (framed fewerWords) (framed moreWords) grandchild (word-framed (word-more word-added)) framed-accepted framed-accepted-more
 
+boxed-accepted : isAccepted (answerAfter (top [] ∷ []) (boxedFrame fewerKeywords)) ≡ true
+unfolding computing
+boxed-accepted = refl
+
+boxed-accepted-more : isAccepted (answerAfter (top [] ∷ []) (boxedFrame moreKeywords)) ≡ true
+unfolding computing
+boxed-accepted-more = refl
+
+keyword-kept : Each Keeps (answers (boxedFamily fewerKeywords)) (answers (boxedFamily moreKeywords))
+keyword-kept = more-never-takes-away (top [] ∷ []) (boxedFrame fewerKeywords) (boxedFrame moreKeywords) within (keyword-framed (keyword-more keyword-added)) boxed-accepted boxed-accepted-more
+
+-- the claim would be false of `allow-same-origin`: the last answer is Enabled without it, and Disabled with it
+last-kept : {a b c d x a′ b′ c′ d′ x′ : Answer} → Each Keeps (a ∷ b ∷ c ∷ d ∷ x ∷ []) (a′ ∷ b′ ∷ c′ ∷ d′ ∷ x′ ∷ []) → Keeps x x′
+last-kept (each p (each q (each r (each s (each k no-more))))) = k
+
+taken : Keeps (decision enabled) (decision disabled) → ⊥
+taken (enabled-stays s) = let e : disabled ≡ enabled = s .keeps refl in clash cc
+
+same-origin-takes-away : Each Keeps (answers (sameOriginRun "")) (answers (sameOriginRun "allow-same-origin")) → ⊥
+unfolding computing
+same-origin-takes-away k = taken (last-kept k)
+
 -- ---- 4
 
 forecast-said : answerAfter (top [] ∷ []) (forecastOf 1 (allowing "camera")) ≡ features 64909
@@ -131,7 +155,7 @@ came-true : answerAfter (top [] ∷ forecastOf 1 (allowing "camera") ∷ framed 
 came-true = forecast-comes-true .comes-true (top [] ∷ []) 1 (text "https://b.example") (allowing "camera") 64909 2 false forecast-said as-src arrived
 
 -- and with `null` in a sandboxed frame
-sandboxed-said : answerAfter (top [] ∷ []) (forecastOf 1 (sandboxing "camera *")) ≡ features 64909
+sandboxed-said : answerAfter (top [] ∷ []) (forecastOf 1 (sandboxing "camera *")) ≡ features 1
 unfolding computing
 sandboxed-said = refl
 
@@ -143,5 +167,5 @@ null-arrived : answerAfter (top [] ∷ forecastOf 1 (sandboxing "camera *") ∷ 
 unfolding computing
 null-arrived = refl
 
-null-came-true : answerAfter (top [] ∷ forecastOf 1 (sandboxing "camera *") ∷ framedLoad 1 [] nullText (sandboxing "camera *") ∷ []) (enabledFeatures 2) ≡ features 64909
-null-came-true = forecast-comes-true .comes-true (top [] ∷ []) 1 nullText (sandboxing "camera *") 64909 2 false sandboxed-said (as-null src-refused) null-arrived
+null-came-true : answerAfter (top [] ∷ forecastOf 1 (sandboxing "camera *") ∷ framedLoad 1 [] nullText (sandboxing "camera *") ∷ []) (enabledFeatures 2) ≡ features 1
+null-came-true = forecast-comes-true .comes-true (top [] ∷ []) 1 nullText (sandboxing "camera *") 1 2 false sandboxed-said (as-null src-refused) null-arrived

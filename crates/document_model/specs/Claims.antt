@@ -14,7 +14,7 @@ use Rattle.declarations.specs.Declarations.{declares, isMalformed}
 use Rattle.containers.specs.Attributes.{Attributes}
 use Rattle.containers.specs.Policies.{containerPolicy}
 use Rattle.containers.specs.Sandboxes.{declaredOrigin}
-use Rattle.containers.specs.Widening.{WordMore}
+use Rattle.containers.specs.Widening.{WordMore, KeywordMore}
 use Rattle.decisions.specs.Decisions.{Decision, inheritedTop}
 use Rattle.decisions.specs.Decisions.Decision.{disabled}
 use Rattle.decisions.specs.Masks.{decisionAt}
@@ -38,12 +38,15 @@ DisabledFlowsDown who =
 
 -- ---- 2. More never takes away
 
--- "The changed call is a load or a forecast": the second call has one item more in its header, or one word more in its allow attribute
+-- "The changed call is a load or a forecast": the second call has one item more in its header, or one word more in its allow attribute;
+-- 02, R-1: or one keyword more in its sandbox attribute: "adding one of these keywords to a sandbox attribute never takes an Enabled away"
 pub data OneMore : Call → Call → Type 0 where
   item-top : {h g o : Text} → OneItemMore h g → OneMore (topLoad h o) (topLoad g o)
   item-framed : {c : ℕ} {h g o : Text} {a : Attributes} → OneItemMore h g → OneMore (framedLoad c h o a) (framedLoad c g o a)
   word-framed : {c : ℕ} {h o : Text} {a b : Attributes} → WordMore a b → OneMore (framedLoad c h o a) (framedLoad c h o b)
   word-forecast : {c : ℕ} {a b : Attributes} → WordMore a b → OneMore (forecastOf c a) (forecastOf c b)
+  keyword-framed : {c : ℕ} {h o : Text} {a b : Attributes} → KeywordMore a b → OneMore (framedLoad c h o a) (framedLoad c h o b)
+  keyword-forecast : {c : ℕ} {a b : Attributes} → KeywordMore a b → OneMore (forecastOf c a) (forecastOf c b)
 
 abbrev pub isAccepted : Answer → Bool
 isAccepted (refused n) = false

@@ -11,6 +11,7 @@ use Rattle.dictionaries.specs.OneItemMore.{OneItemMore}
 use Rattle.pieces.specs.OneWordMore.{OneWordMore}
 use Rattle.containers.specs.Attributes.{Attributes}
 use Rattle.containers.specs.Policies.{isSemicolon}
+use Rattle.containers.specs.Widening.{OneKeywordMore}
 use Rattle.decisions.specs.Decisions.Decision.{disabled, enabled}
 use Rattle.document_model.specs.Runs.{answersBy}
 use Rattle.document_model.specs.Model.{Text, Table, Call, topLoad, framedLoad, unload, question, enabledFeatures, listing, forecastOf, Answer, refused, loaded, removed, decision, features, serials, answerTo, tableLeft, tableAfter, answers}
@@ -26,6 +27,10 @@ allowing allow = record { allow = text allow; allowfullscreen = false; hasSandbo
 -- the same with an empty sandbox attribute
 abbrev pub sandboxing : String → Attributes
 sandboxing allow = record { allow = text allow; allowfullscreen = false; hasSandbox = true; sandbox = []; src = text "https://b.example" }
+
+-- a frame with the same src, an allow attribute and a sandbox attribute
+abbrev pub boxed : String → String → Attributes
+boxed sandbox allow = record { allow = text allow; allowfullscreen = false; hasSandbox = true; sandbox = text sandbox; src = text "https://b.example" }
 
 -- one with the same src that allows usb everywhere and has allowfullscreen
 abbrev wide : Attributes
@@ -96,6 +101,35 @@ top header = topLoad header (text "https://a.example")
 abbrev pub family : Text → String → List Call
 family header allow = top header ∷ framed allow ∷ grandchild
 
+-- ---- 02, R-1: one keyword more adds an Enabled in a grandchild; `allow-same-origin` is no keyword, and takes one away
+
+abbrev pub scripts : ℕ
+scripts = 14
+
+abbrev pub fewerKeywords : String
+fewerKeywords = "allow-forms"
+
+abbrev pub moreKeywords : String
+moreKeywords = "Allow-SCRIPTS\tallow-forms"
+
+pub keyword-added : OneKeywordMore (text fewerKeywords) (text moreKeywords)
+unfolding computing
+keyword-added = record { front = []; back = text "allow-forms" ∷ []; word = text "Allow-SCRIPTS"; feature = scripts; keyword = text "allow-scripts"; is-keyword = refl; any-case = refl; first = refl; second = refl }
+
+-- a frame with a sandbox attribute, then one in it and what is asked then
+abbrev pub boxedFrame : String → Call
+boxedFrame sandbox = framedLoad 1 [] (text "null") (boxed sandbox "")
+
+abbrev pub within : List Call
+within = framedLoad 2 [] (text "null") (allowing "") ∷ question 3 scripts [] ∷ enabledFeatures 3 ∷ forecastOf 2 (allowing "") ∷ []
+
+abbrev pub boxedFamily : String → List Call
+boxedFamily sandbox = top [] ∷ boxedFrame sandbox ∷ within
+
+-- the load at https://x.example gets 5 or a serial, and so the next load another one
+abbrev pub sameOriginRun : String → List Call
+sameOriginRun sandbox = top [] ∷ boxedFrame sandbox ∷ framedLoad 2 [] (text "https://x.example") (allowing "") ∷ topLoad [] (text "https://c.example") ∷ question 3 camera [] ∷ []
+
 -- ---- all runs
 
 abbrev many : ℕ → List Call
@@ -121,7 +155,23 @@ rows =
     }
     ∷ record {
       calls = top [] ∷ forecastOf 1 (sandboxing "camera *") ∷ framedLoad 1 [] (text "null") (sandboxing "camera *") ∷ enabledFeatures 2 ∷ [];
-      expected = loaded 1 false ∷ features 64909 ∷ loaded 2 false ∷ features 64909 ∷ [];
+      expected = loaded 1 false ∷ features 1 ∷ loaded 2 false ∷ features 1 ∷ [];
+    }
+    -- 02, R-1: forms alone, worth 8; and scripts too, worth 16,384
+    ∷ record { calls = boxedFamily fewerKeywords; expected = loaded 1 false ∷ loaded 2 false ∷ loaded 3 false ∷ decision disabled ∷ features 8 ∷ features 8 ∷ [] }
+    ∷ record { calls = boxedFamily moreKeywords; expected = loaded 1 false ∷ loaded 2 false ∷ loaded 3 false ∷ decision enabled ∷ features 16392 ∷ features 16392 ∷ [] }
+    ∷ record { calls = top [] ∷ forecastOf 1 (boxed fewerKeywords "") ∷ forecastOf 1 (boxed moreKeywords "") ∷ []; expected = loaded 1 false ∷ features 8 ∷ features 16392 ∷ [] }
+    ∷ record { calls = sameOriginRun ""; expected = loaded 1 false ∷ loaded 2 false ∷ refused 5 ∷ loaded 3 false ∷ decision enabled ∷ [] }
+    ∷ record { calls = sameOriginRun "allow-same-origin"; expected = loaded 1 false ∷ loaded 2 false ∷ loaded 3 false ∷ loaded 4 false ∷ decision disabled ∷ [] }
+    -- a bare `scripts` stays Disabled, since the declared origin is fresh, and with `allow-same-origin` it is Enabled; `scripts *` is Enabled, and `plugins *` isn't: worth 16,384 and 1,024
+    ∷ record {
+      calls = top [] ∷ framedLoad 1 [] (text "null") (boxed "" "scripts") ∷ question 2 scripts [] ∷ framedLoad 1 [] (text "https://b.example") (boxed "allow-same-origin" "scripts") ∷ question 3 scripts [] ∷ forecastOf 1 (boxed "" "scripts *; plugins *") ∷ [];
+      expected = loaded 1 false ∷ loaded 2 false ∷ decision disabled ∷ loaded 3 false ∷ decision enabled ∷ features 16384 ∷ [];
+    }
+    -- a frame without a sandbox attribute in a sandboxed document: no step of its own, but nothing that was Disabled comes back
+    ∷ record {
+      calls = top [] ∷ boxedFrame "allow-popups" ∷ framedLoad 2 (text "scripts=*") (text "null") (allowing "scripts *") ∷ enabledFeatures 3 ∷ [];
+      expected = loaded 1 false ∷ loaded 2 false ∷ loaded 3 false ∷ features 4096 ∷ [];
     }
     -- unloading removes all beneath
     ∷ record {

@@ -23,7 +23,7 @@ use Rattle.origins.proofs.Laws.{fresh-left}
 use Rattle.allowlists.specs.Allowlists.{Allowlist, someAdmits}
 use Rattle.allowlists.specs.Answers.{admissionAs, admissionIn}
 use Rattle.allowlists.specs.declared.Admission.{Admission}
-use Rattle.containers.specs.Policies.{allowPolicy}
+use Rattle.containers.specs.Policies.{attributePolicy}
 use Rattle.containers.specs.Answers.{policyIn, IsPolicies, declaredIn}
 use Rattle.containers.specs.declared.ContainerPolicy.{ContainerPolicy}
 use Rattle.containers.specs.declared.ContainerPolicy.the-variants as policy
@@ -76,16 +76,16 @@ inherits-is c n allowed isDeclared same o v w r a default e f g h k is =
     }
 
 -- decisions stored one after the other
-pub record Stored (p : Policy) (allow : List ℕ) (mark isDeclared : Bool) (o : Origin) (i : ℕ) (all : List Answer) : Type 0 where
-  pub each : (n : ℕ) → n < i → Inherits p n (allowPolicy allow mark n) isDeclared o (decisionIn (getD all n answer.Disabled))
+pub record Stored (p : Policy) (allow : List ℕ) (mark : Bool) (sandbox : Option (List (List ℕ))) (isDeclared : Bool) (o : Origin) (i : ℕ) (all : List Answer) : Type 0 where
+  pub each : (n : ℕ) → n < i → Inherits p n (attributePolicy allow mark sandbox n) isDeclared o (decisionIn (getD all n answer.Disabled))
 
-pub none-stored : (p : Policy) (allow : List ℕ) (mark isDeclared : Bool) (o : Origin) (all : List Answer) → Stored p allow mark isDeclared o 0 all
-none-stored p allow mark isDeclared o all = record { each = λ n h. absurd (omega arith) }
+pub none-stored : (p : Policy) (allow : List ℕ) (mark : Bool) (sandbox : Option (List (List ℕ))) (isDeclared : Bool) (o : Origin) (all : List Answer) → Stored p allow mark sandbox isDeclared o 0 all
+none-stored p allow mark sandbox isDeclared o all = record { each = λ n h. absurd (omega arith) }
 
-pub one-stored : (p : Policy) (allow : List ℕ) (mark isDeclared : Bool) (o : Origin) (i : ℕ) (all : List Answer) (ps : List ContainerPolicy) (x : ContainerPolicy) (r : Answer) → Stored p allow mark isDeclared o i all → length all ≡ featureCount → i < featureCount → IsPolicies allow mark ps → x ≡ getD ps i policy.None → Inherits p i (policyIn allow x) isDeclared o (decisionIn r) → Stored p allow mark isDeclared o (i + 1) (set all i r)
-one-stored p allow mark isDeclared o i all ps x r st long h is e f = record { each = λ n m. go n m (eqb n i) refl }
+pub one-stored : (p : Policy) (allow : List ℕ) (mark : Bool) (sandbox : Option (List (List ℕ))) (isDeclared : Bool) (o : Origin) (i : ℕ) (all : List Answer) (ps : List ContainerPolicy) (x : ContainerPolicy) (r : Answer) → Stored p allow mark sandbox isDeclared o i all → length all ≡ featureCount → i < featureCount → IsPolicies allow mark sandbox ps → x ≡ getD ps i policy.None → Inherits p i (policyIn allow x) isDeclared o (decisionIn r) → Stored p allow mark sandbox isDeclared o (i + 1) (set all i r)
+one-stored p allow mark sandbox isDeclared o i all ps x r st long h is e f = record { each = λ n m. go n m (eqb n i) refl }
   where
-    go : (n : ℕ) → n < i + 1 → (b : Bool) → eqb n i ≡ b → Inherits p n (allowPolicy allow mark n) isDeclared o (decisionIn (getD (set all i r) n answer.Disabled))
+    go : (n : ℕ) → n < i + 1 → (b : Bool) → eqb n i ≡ b → Inherits p n (attributePolicy allow mark sandbox n) isDeclared o (decisionIn (getD (set all i r) n answer.Disabled))
     go n m true t =
         let u : n ≡ i = eqb-true n i t in
         let lt : i < length all = omega arith in
@@ -94,6 +94,6 @@ one-stored p allow mark isDeclared o i all ps x r st long h is e f = record { ea
         let u : n ≡ i → ⊥ = eqb-false n i t in
         rw (getD-set-other all i n r answer.Disabled u) (st .each n (omega arith))
 
-pub inherited-is : (p : Policy) (allow : List ℕ) (mark isDeclared : Bool) (o : Origin) (i : ℕ) (all : List Answer) (r : ℕ) → Stored p allow mark isDeclared o i all → featureCount ≤ i → r ≡ maskOf (decisionsIn all) → IsInherited p allow mark isDeclared o r
-inherited-is p allow mark isDeclared o i all r st h e =
+pub inherited-is : (p : Policy) (allow : List ℕ) (mark : Bool) (sandbox : Option (List (List ℕ))) (isDeclared : Bool) (o : Origin) (i : ℕ) (all : List Answer) (r : ℕ) → Stored p allow mark sandbox isDeclared o i all → featureCount ≤ i → r ≡ maskOf (decisionsIn all) → IsInherited p allow mark sandbox isDeclared o r
+inherited-is p allow mark sandbox isDeclared o i all r st h e =
     record { says = λ f g q. e ∙ mask-places all (inheritedIn p f o) (λ n lt. st .each n (omega arith) .says (f .declared) q ∙ (rw (← (g n)) (sym (inherited-parts p n o f)))) }

@@ -14,7 +14,7 @@ use Rattle.allowlists.specs.declared.Admission.{Admission}
 use Rattle.decisions.specs.Decisions.{Decision}
 use Rattle.decisions.specs.Masks.{maskOf}
 use Rattle.decisions.specs.Policies.{Policy, Frame, inheritedFramed, valueIn, inheritedIn}
-use Rattle.containers.specs.Policies.{allowPolicy}
+use Rattle.containers.specs.Policies.{attributePolicy}
 use Rattle.containers.specs.Answers.{declaredIn as declaredOriginIn}
 use Rattle.containers.specs.declared.DeclaredOrigin.{DeclaredOrigin}
 use Rattle.origins.specs.Matching.{sameOrigin}
@@ -62,6 +62,6 @@ pub record IsDeclaredOrigin (container : Origin) (declared : DeclaredOrigin) (sr
 pub record Inherits (p : Policy) (n : ℕ) (allowed : Option Allowlist) (isDeclared : Bool) (o : Origin) (r : Decision) : Type 0 where
   pub says : (declared : Origin) → isDeclared ≡ sameOrigin declared o → r ≡ inheritedFramed (valueIn p n (p .own)) (valueIn p n o) allowed (defaultOf n) (p .own) declared o
 
--- the same of every feature, for every frame with that allow attribute and allowfullscreen
-pub record IsInherited (p : Policy) (allow : List ℕ) (mark isDeclared : Bool) (o : Origin) (r : ℕ) : Type 0 where
-  pub says : (f : Frame) → ((n : ℕ) → f .allowed n ≡ allowPolicy allow mark n) → isDeclared ≡ sameOrigin (f .declared) o → r ≡ maskOf (inheritedIn p f o)
+-- the same of every feature, for every frame with that allow attribute, allowfullscreen, and the sandbox attribute, none or its words
+pub record IsInherited (p : Policy) (allow : List ℕ) (mark : Bool) (sandbox : Option (List (List ℕ))) (isDeclared : Bool) (o : Origin) (r : ℕ) : Type 0 where
+  pub says : (f : Frame) → ((n : ℕ) → f .allowed n ≡ attributePolicy allow mark sandbox n) → isDeclared ≡ sameOrigin (f .declared) o → r ≡ maskOf (inheritedIn p f o)

@@ -2,6 +2,7 @@
 ghost use mathlib.Core.Path.{_≡_};
 ghost use Rattle.origins.specs.Matching.{sameOrigin};
 ghost use Rattle.origins.specs.Answers.{originIn};
+ghost use Rattle.containers.specs.Sandboxes.{sandboxWords};
 ghost use Rattle.containers.specs.Answers.{policyIn};
 ghost use Rattle.decisions.specs.Answers.{decisionIn};
 ghost use Rattle.decisions.specs.Policies.{valueIn, questionIn, enabledMask};
@@ -145,13 +146,15 @@ pub fn inherited(
     c: Document,
     allow: &[u8],
     allowfullscreen: bool,
+    has_sandbox: bool,
+    sandbox: &[u8],
     declared: bool,
     t: &[u8],
     o: OriginRange,
 ) -> u32
-    ensures { λ r. ⌜ IsInherited (recordPolicy c) (now (allow .entry)) allowfullscreen declared (originIn (now (t .entry)) o) r ⌝ }
+    ensures { λ r. ⌜ IsInherited (recordPolicy c) (now (allow .entry)) allowfullscreen (sandboxWords «has_sandbox» (now (sandbox .entry))) declared (originIn (now (t .entry)) o) r ⌝ }
 {
-    let policies = containers::allow_policies(allow, allowfullscreen);
+    let policies = containers::container_policies(allow, allowfullscreen, has_sandbox, sandbox);
     let mut all = [Decision::Disabled; features::COUNT];
     let mut i: usize = 0;
     while i < features::COUNT {

@@ -2,7 +2,7 @@
 use mathlib.Core.Path.{_≡_, refl, ap, _∙_, sym}
 use Prim.Native.Nat.{ℕ, _<_}
 use mathlib.Core.List.{List, [], _∷_, _++_, map}
-use mathlib.Core.Bool.{Bool, true, false}
+use mathlib.Core.Bool.{Bool, true, false, _||_}
 use mathlib.Core.Option.{Option, some, none}
 use native.Mathlib.Omega.{arith}
 use lib.ListN.{length, getD}
@@ -10,7 +10,7 @@ use borrow.Author.Tests.{eq-eqb, ne-eqb}
 use lib.Dec.{eqb}
 use Rattle.ascii.specs.Bytes.{pick}
 use Rattle.ascii.specs.Classes.{outside}
-use Rattle.ascii.specs.Texts.{sameBytes, cutAt}
+use Rattle.ascii.specs.Texts.{sameBytes, sameLowered, cutAt}
 use Rattle.ascii.specs.declared.Class.{Class}
 use Rattle.ascii.proofs.Clash.{clash}
 use Rattle.ascii.proofs.Texts.{bytes-same, same-bytes, cut-same}
@@ -19,7 +19,7 @@ use Rattle.features.proofs.Laws.{found, found-name}
 use Rattle.allowlists.specs.Allowlists.{Allowlist, Meaning, allowlistOf}
 use Rattle.allowlists.specs.Widening.{Wider, AsWide}
 use Rattle.allowlists.proofs.Laws.{meaning-wider}
-use Rattle.pieces.specs.Pieces.{words, piecesOf, featureIn, isThe, isFor, furtherWords, lastFor, entryOf}
+use Rattle.pieces.specs.Pieces.{words, piecesOf, featureIn, isThe, isFor, furtherWords, lastFor, entryOf, hasKeyword}
 use Rattle.pieces.specs.Words.{wordMeaning, entryList}
 use Rattle.pieces.specs.Answers.{entryIn, entryAt, IsEntries}
 use Rattle.pieces.specs.OneWordMore.{OneWordMore}
@@ -116,3 +116,22 @@ grown-in n earlier later feature front back w h =
 pub entry-grown : (ends : ℕ → Bool) (s t : List ℕ) → OneWordMore ends s t → (n : ℕ) → Grown (entryOf ends s n) (entryOf ends t n)
 unfolding entryOf
 entry-grown ends s t o n = rw (o .first, o .second) (grown-in n (o .earlier) (o .later) (o .feature) (o .front) (o .back) (o .word) (o .one))
+
+-- a keyword among words with one more: what stood stands, and a word that isn't the keyword changes nothing
+or-second : (a b : Bool) → b ≡ true → a || b ≡ true
+or-second true b e = refl
+or-second false b e = e
+
+or-on : (a b c : Bool) → (b ≡ true → c ≡ true) → a || b ≡ true → a || c ≡ true
+or-on true b c h e = refl
+or-on false b c h e = h e
+
+pub keyword-more : (k : List ℕ) (front back : List (List ℕ)) (w : List ℕ) → hasKeyword k (front ++ back) ≡ true → hasKeyword k (front ++ (w ∷ back)) ≡ true
+unfolding hasKeyword
+keyword-more k [] back w e = or-second (sameLowered w k) (hasKeyword k back) e
+keyword-more k (x ∷ front) back w e = or-on (sameLowered x k) (hasKeyword k (front ++ back)) (hasKeyword k (front ++ (w ∷ back))) (keyword-more k front back w) e
+
+pub keyword-other : (k : List ℕ) (front back : List (List ℕ)) (w : List ℕ) → sameLowered w k ≡ false → hasKeyword k (front ++ (w ∷ back)) ≡ hasKeyword k (front ++ back)
+unfolding hasKeyword
+keyword-other k [] back w e = rw e
+keyword-other k (x ∷ front) back w e = ap (λ (b : Bool). sameLowered x k || b) (keyword-other k front back w e)

@@ -5,6 +5,7 @@ use lib.ListN.{length}
 use native.Mathlib.Omega.{arith}
 use Rattle.features.specs.Features.{featureCount}
 use Rattle.origins.specs.Answers.{originIn}
+use Rattle.containers.specs.Sandboxes.{sandboxWords}
 use Rattle.document_records.specs.Records.{recordPolicy}
 use Rattle.document_records.proofs.Inheriting.{Stored, none-stored, one-stored, inherited-is}
 use borrow.Author.Needs.{needs}
@@ -12,10 +13,10 @@ use Rattle.document_records.proofs.inherited.Statement.{statement}
 use Rattle.document_records.proofs.inherited.Tie as tie
 
 abbrev Inv-loop : tie.InvT-loop
-Inv-loop c allow allowfullscreen declared t o policies all₀ i₀ all i = (i ≤ featureCount) × (length all ≡ featureCount) × Stored (recordPolicy c) allow allowfullscreen declared (originIn t o) i all
+Inv-loop c allow allowfullscreen stands sandbox declared t o policies all₀ i₀ all i = (i ≤ featureCount) × (length all ≡ featureCount) × Stored (recordPolicy c) allow allowfullscreen (sandboxWords stands sandbox) declared (originIn t o) i all
 
 abbrev μ-loop : tie.MeasureT-loop
-μ-loop c allow allowfullscreen declared t o policies all₀ i₀ all i = featureCount - i
+μ-loop c allow allowfullscreen stands sandbox declared t o policies all₀ i₀ all i = featureCount - i
 
 pub inherited-spec : {M : Type 1} → statement M
 inherited-spec =
@@ -24,7 +25,7 @@ inherited-spec =
     Inv-loop
     μ-loop
     (λ c κs. search needs)
-    (λ c. (omega arith, refl, none-stored _ _ _ _ _ _))
+    (λ c. (omega arith, refl, none-stored _ _ _ _ _ _ _))
     (λ c. search needs)
     (λ c. search needs)
     (λ c. search needs)
