@@ -1,4 +1,4 @@
-// Cases of document 01 about frames. The container document stands at https://a.example.
+// Cases of documents 01 and 02 (R-1) about frames. The container document stands at https://a.example.
 // Each line of standard input is a case, its fields parted by `|`; it is written again with the answer after it. The first field
 // has words: `container` asks the container about itself (header, feature), `grandchild` a frame's frame (the container's
 // header, its own header, feature), `enabled` is for the number of the container's enabled features (header), `forecast` for a
@@ -82,9 +82,11 @@ struct Arrival {
     declared_same: bool,
 }
 
-// What a frame's allow attribute and allowfullscreen give a feature.
-fn container_policy(allow: &[u8], full: bool, n: u32) -> ContainerPolicy {
-    let policies = containers::allow_policies(allow, full);
+// What a frame's attributes give a feature.
+fn container_policy(marks: &[u8], allow: &[u8], sandbox: &[u8], n: u32) -> ContainerPolicy {
+    let full = pieces::has_keyword(marks, b"allowfullscreen");
+    let stands = pieces::has_keyword(marks, b"sandbox");
+    let policies = containers::container_policies(allow, full, stands, sandbox);
     let i = n as usize;
     if i < features::COUNT {
         policies[i]
@@ -94,12 +96,20 @@ fn container_policy(allow: &[u8], full: bool, n: u32) -> ContainerPolicy {
 }
 
 // What a document at an origin inherits for a feature from the container.
-fn inherits(header: &[u8], allow: &[u8], full: bool, n: u32, t: &[u8], a: Arrival) -> Decision {
+fn inherits(
+    header: &[u8],
+    marks: &[u8],
+    allow: &[u8],
+    sandbox: &[u8],
+    n: u32,
+    t: &[u8],
+    a: Arrival,
+) -> Decision {
     let o = a.origin;
     let container = origin(b"https://a.example");
     let at_own = admits(header, n, true, b"https://a.example", container);
     let at_arriving = admits(header, n, a.container_same, t, o);
-    let policy = container_policy(allow, full, n);
+    let policy = container_policy(marks, allow, sandbox, n);
     let value_own = decisions::value(Decision::Enabled, at_own);
     let value_arriving = decisions::value(Decision::Enabled, at_arriving);
     let allowed = containers::policy_admits(allow, policy, a.container_same, a.declared_same, t, o);
@@ -131,10 +141,11 @@ fn is_container(t: &[u8], o: OriginRange) -> bool {
 fn arrived(line: &[u8], t: &[u8]) {
     let src = field(line, 4);
     let n = feature(field(line, 6));
-    let full = pieces::has_keyword(field(line, 0), b"allowfullscreen");
+    let marks = field(line, 0);
+    let sandbox = field(line, 3);
     let o = origin(t);
     let container_same = is_container(t, o);
-    let declared_same = match declared(field(line, 0), field(line, 3), src) {
+    let declared_same = match declared(marks, sandbox, src) {
         DeclaredOrigin::Fresh => false,
         DeclaredOrigin::Container => container_same,
         DeclaredOrigin::Src(r) => origins::same_origin(src, OriginRange::Tuple(r), t, o),
@@ -145,7 +156,7 @@ fn arrived(line: &[u8], t: &[u8]) {
         container_same,
         declared_same,
     };
-    let inherited = inherits(field(line, 1), field(line, 2), full, n, t, a);
+    let inherited = inherits(field(line, 1), marks, field(line, 2), sandbox, n, t, a);
     let default = features::default_of(n);
     put_decision(decisions::question(inherited, Admission::NoList, default, true));
 }
@@ -176,7 +187,7 @@ fn grandchild(header: &[u8], below: &[u8], n: u32) -> Decision {
         container_same: false,
         declared_same: true,
     };
-    let above = inherits(header, b"", false, n, b"https://b.example", a);
+    let above = inherits(header, b"", b"", b"", n, b"https://b.example", a);
     let value = decisions::value(above, Admission::NoList);
     let default = features::default_of(n);
     let inherited = decisions::inherited(Framed {
@@ -191,11 +202,18 @@ fn grandchild(header: &[u8], below: &[u8], n: u32) -> Decision {
 }
 
 // The number of the features that a document at an origin would inherit.
-fn inherited_mask(header: &[u8], allow: &[u8], full: bool, t: &[u8], a: Arrival) -> u32 {
+fn inherited_mask(
+    header: &[u8],
+    marks: &[u8],
+    allow: &[u8],
+    sandbox: &[u8],
+    t: &[u8],
+    a: Arrival,
+) -> u32 {
     let mut all = [Decision::Disabled; features::COUNT];
     let mut i: usize = 0;
     while i < features::COUNT {
-        all[i] = inherits(header, allow, full, i as u32, t, a);
+        all[i] = inherits(header, marks, allow, sandbox, i as u32, t, a);
         i += 1;
     }
     decisions::mask(all)
@@ -206,15 +224,16 @@ fn forecast(line: &[u8]) {
     let header = field(line, 1);
     let allow = field(line, 2);
     let src = field(line, 4);
-    let full = pieces::has_keyword(field(line, 0), b"allowfullscreen");
-    match declared(field(line, 0), field(line, 3), src) {
+    let marks = field(line, 0);
+    let sandbox = field(line, 3);
+    match declared(marks, sandbox, src) {
         DeclaredOrigin::Fresh => {
             let a = Arrival {
                 origin: OriginRange::Fresh,
                 container_same: false,
                 declared_same: false,
             };
-            put_number(inherited_mask(header, allow, full, b"", a));
+            put_number(inherited_mask(header, marks, allow, sandbox, b"", a));
         }
         DeclaredOrigin::Container => {
             let o = origin(b"https://a.example");
@@ -223,7 +242,7 @@ fn forecast(line: &[u8]) {
                 container_same: true,
                 declared_same: true,
             };
-            put_number(inherited_mask(header, allow, full, b"https://a.example", a));
+            put_number(inherited_mask(header, marks, allow, sandbox, b"https://a.example", a));
         }
         DeclaredOrigin::Src(r) => {
             let o = OriginRange::Tuple(r);
@@ -233,7 +252,7 @@ fn forecast(line: &[u8]) {
                 container_same,
                 declared_same: true,
             };
-            put_number(inherited_mask(header, allow, full, src, a));
+            put_number(inherited_mask(header, marks, allow, sandbox, src, a));
         }
         DeclaredOrigin::NotAnOrigin => put(b": no origin\n"),
     }

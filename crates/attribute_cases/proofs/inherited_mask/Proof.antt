@@ -8,10 +8,10 @@ use Rattle.attribute_cases.proofs.inherited_mask.Statement.{statement}
 use Rattle.attribute_cases.proofs.inherited_mask.Tie as tie
 
 abbrev Inv-loop : tie.InvT-loop
-Inv-loop header allow full t a all₀ i₀ all i = (i ≤ featureCount) × (length all ≡ featureCount)
+Inv-loop header marks allow sandbox t a all₀ i₀ all i = (i ≤ featureCount) × (length all ≡ featureCount)
 
 abbrev μ-loop : tie.MeasureT-loop
-μ-loop header allow full t a all₀ i₀ all i = featureCount - i
+μ-loop header marks allow sandbox t a all₀ i₀ all i = featureCount - i
 
 pub inherited-mask-spec : {M : Type 1} → statement M
 inherited-mask-spec =
