@@ -14,6 +14,14 @@ pub enum Allowlist {
 }
 
 impl Allowlist {
+    /// The list that admits nothing.
+    pub fn empty() -> Self {
+        Allowlist::Listed {
+            origins: Vec::new(),
+            expressions: Vec::new(),
+        }
+    }
+
     /// "A list admits an origin if it is `*`, or if it holds that origin or an
     /// expression that admits it."
     pub fn admits(&self, origin: &Origin) -> bool {

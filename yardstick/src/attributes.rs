@@ -2,7 +2,7 @@
 
 use crate::allowlist::Allowlist;
 use crate::expressions::SourceExpression;
-use crate::features::{feature_by_name, FEATURE_COUNT, FULLSCREEN};
+use crate::features::{default_is_all, feature_by_name, FEATURE_COUNT, FULLSCREEN, PLUGINS};
 use crate::origins::Origin;
 
 /// For each feature its list, or nothing if the attributes don't have it.
@@ -16,9 +16,11 @@ fn words(text: &[u8]) -> impl Iterator<Item = &[u8]> {
 
 /// An allow attribute "is cut at every `;`", each piece in words; "First word
 /// the feature; unknown ones are skipped; the last piece for a feature stands."
+/// The sandbox attribute is the frame's own, or nothing if it has none.
 pub fn container_policy(
     allow: &[u8],
     allowfullscreen: bool,
+    sandbox: Option<&[u8]>,
     container_origin: &Origin<'static>,
     declared_origin: &Origin<'static>,
 ) -> ContainerPolicy {
@@ -33,7 +35,41 @@ pub fn container_policy(
     if allowfullscreen && policy[FULLSCREEN].is_none() {
         policy[FULLSCREEN] = Some(Allowlist::All);
     }
+    if let Some(text) = sandbox {
+        close_sandboxed(&mut policy, text);
+    }
     policy
+}
+
+/// R-1: "With sandbox present, each of 01's ten features with default * gets
+/// an empty list unless its keyword stands [...] or the allow attribute names
+/// the feature; the allow list then decides, but plugins stays empty whatever
+/// allow says."
+fn close_sandboxed(policy: &mut ContainerPolicy, sandbox: &[u8]) {
+    let keywords = features_by_keyword(sandbox);
+    for feature in (0..FEATURE_COUNT).filter(|&f| default_is_all(f)) {
+        let named = policy[feature].is_some();
+        if feature == PLUGINS || !(named || keywords[feature]) {
+            policy[feature] = Some(Allowlist::empty());
+        }
+    }
+}
+
+/// For each feature: does its keyword stand in the sandbox attribute?
+pub fn features_by_keyword(sandbox: &[u8]) -> [bool; FEATURE_COUNT] {
+    let mut stands = [false; FEATURE_COUNT];
+    for feature in words(sandbox).filter_map(feature_by_keyword) {
+        stands[feature] = true;
+    }
+    stands
+}
+
+/// A keyword is "`allow-` and the feature's name, case ignored; plugins has
+/// none"; only the ten with default * have one.
+fn feature_by_keyword(word: &[u8]) -> Option<usize> {
+    let word = word.to_ascii_lowercase();
+    let feature = feature_by_name(word.strip_prefix(b"allow-")?)?;
+    (default_is_all(feature) && feature != PLUGINS).then_some(feature)
 }
 
 fn container_list<'a>(
@@ -98,7 +134,7 @@ mod tests {
             origin("https://b.example"),
             origin("https://c.example"),
         ];
-        let policy = container_policy(allow.as_bytes(), false, &a, &b);
+        let policy = container_policy(allow.as_bytes(), false, None, &a, &b);
         policy[feature]
             .as_ref()
             .map(|list| [list.admits(&a), list.admits(&b), list.admits(&c)])
@@ -135,7 +171,7 @@ mod tests {
     fn allowfullscreen() {
         let here = origin("https://a.example");
         let list = |allow: &str, flag| {
-            container_policy(allow.as_bytes(), flag, &here, &here)[FULLSCREEN].clone()
+            container_policy(allow.as_bytes(), flag, None, &here, &here)[FULLSCREEN].clone()
         };
         assert!(list("", false).is_none());
         assert!(matches!(list("", true), Some(Allowlist::All)));
@@ -152,5 +188,99 @@ mod tests {
         assert!(sandboxes(Some(b"allow-scripts")));
         assert!(sandboxes(Some(b"allow-same-originx allow-same-origin,")));
         assert!(!sandboxes(Some(b"allow-scripts\tALLOW-same-ORIGIN\n")));
+    }
+
+    /// The features whose keyword stands, in number order.
+    fn by_keyword(sandbox: &str) -> Vec<usize> {
+        let stands = features_by_keyword(sandbox.as_bytes());
+        (0..FEATURE_COUNT).filter(|&f| stands[f]).collect()
+    }
+
+    #[test]
+    fn the_nine_keywords() {
+        let all = "allow-downloads-without-user-activation allow-forms allow-modals \
+                   allow-orientation-lock allow-pointer-lock allow-popups \
+                   allow-presentation allow-scripts allow-top-navigation";
+        let numbers = [2, 3, 7, 8, 11, 12, 13, 14, 15];
+        assert_eq!(by_keyword(all), numbers);
+        assert_eq!(by_keyword(&all.to_uppercase()), numbers);
+        for (word, number) in all.split(' ').zip(numbers) {
+            assert_eq!(by_keyword(word), [number], "{word}");
+        }
+        assert_eq!(
+            by_keyword("\x0cALLOW-Forms\tallow-forms\nallow-SCRIPTS\rx allow-modals "),
+            [3, 7, 14]
+        );
+    }
+
+    #[test]
+    fn no_keywords() {
+        for text in [
+            "",
+            " \t\n\x0c\r",
+            "allow-plugins",
+            "ALLOW-PLUGINS",
+            "allow-camera",
+            "allow-fullscreen",
+            "allow-same-origin",
+            "allow-popups-to-escape-sandbox",
+            "allow-downloads",
+            "allow-scripts2",
+            "allow-script",
+            "allow_scripts",
+            "allow--scripts",
+            "allow scripts",
+            "scripts",
+            "allow-",
+            "xallow-scripts",
+            "allow-scripts;",
+            "allow-scripts,allow-forms",
+            "allow-scripts\x0ballow-forms",
+            "allow-\u{17f}cripts",
+            "allow-orientation-loc\u{212a}",
+        ] {
+            assert_eq!(by_keyword(text), [], "{text}");
+        }
+    }
+
+    /// Which features the attributes have with a list that admits nothing of
+    /// a, b and an opaque origin; the declared origin is b.
+    fn closed(allow: &str, sandbox: Option<&str>) -> Vec<usize> {
+        let [a, b] = [origin("https://a.example"), origin("https://b.example")];
+        let sandbox = sandbox.map(str::as_bytes);
+        let policy = container_policy(allow.as_bytes(), false, sandbox, &a, &b);
+        (0..FEATURE_COUNT)
+            .filter(|&f| {
+                policy[f].as_ref().is_some_and(|list| {
+                    ![&a, &b, &Origin::Opaque(1)].iter().any(|o| list.admits(o))
+                })
+            })
+            .collect()
+    }
+
+    #[test]
+    fn sandbox_as_a_policy() {
+        assert_eq!(closed("", None), []);
+        let ten = [2, 3, 7, 8, 10, 11, 12, 13, 14, 15];
+        assert_eq!(closed("", Some("")), ten);
+        assert_eq!(closed("", Some("allow-same-origin")), ten);
+        assert_eq!(
+            closed("", Some("allow-scripts allow-modals")),
+            [2, 3, 8, 10, 11, 12, 13, 15]
+        );
+        // The allow list decides, with the keyword and without.
+        assert_eq!(
+            closed("forms; modals *; popups 'self'", Some("")),
+            [2, 8, 10, 11, 13, 14, 15]
+        );
+        assert_eq!(
+            closed("forms 'none'; camera 'none'", Some("allow-forms")),
+            [0, 2, 3, 7, 8, 10, 11, 12, 13, 14, 15]
+        );
+        // But not of plugins.
+        assert_eq!(closed("plugins *", None), []);
+        assert_eq!(closed("plugins *", Some("allow-plugins")), ten);
+        // A name in another case is unknown.
+        assert_eq!(closed("Forms *", Some("")), ten);
     }
 }

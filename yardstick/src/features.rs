@@ -54,6 +54,9 @@ pub const FEATURES: [Feature; FEATURE_COUNT] = [
 /// The number of `fullscreen`, which allowfullscreen speaks of.
 pub const FULLSCREEN: usize = 4;
 
+/// The number of `plugins`, which no frame with a sandbox attribute has.
+pub const PLUGINS: usize = 10;
+
 /// "Names are compared byte for byte."
 pub fn feature_by_name(name: &[u8]) -> Option<usize> {
     FEATURES.iter().position(|f| f.name.as_bytes() == name)
@@ -81,5 +84,6 @@ mod tests {
         assert_eq!(feature_by_name(b"Camera"), None);
         assert_eq!(feature_by_name(b""), None);
         assert_eq!(FEATURES[FULLSCREEN].name, "fullscreen");
+        assert_eq!(FEATURES[PLUGINS].name, "plugins");
     }
 }

@@ -39,6 +39,16 @@ pub fn answer(table: &mut Table, line: &[u8], out: &mut Vec<u8>) {
     }
 }
 
+/// The allow and the sandbox attribute of a framed load or a forecast.
+pub fn attributes_of(line: &[u8]) -> Option<(Vec<u8>, Option<Vec<u8>>)> {
+    match Call::parse(line)? {
+        Call::Frame { element, .. } | Call::Forecast { element } => {
+            Some((element.allow, element.sandbox))
+        }
+        _ => None,
+    }
+}
+
 /// A line that is a call, its texts decoded.
 enum Call {
     Top {
@@ -291,7 +301,9 @@ enabled\t2
 beneath\t1\t1
 beneath\t1\t0
 beneath\t2\t0
+forecast\t1\thttps://b.example\t0\t\t0
 forecast\t1\thttps://b.example\t0\t\t1
+forecast\t1\thttps://b.example\t0\t\t1Allow-%73cripts%0aallow-forms
 tidy\t9\tcamera=%28)
 tidy\t0\t
 unload\t1
@@ -309,6 +321,8 @@ ask\t1\t0\t";
                 "refused 9",
                 "beneath 0",
                 "features 64908",
+                "features 0",
+                "features 16392",
                 "tidied camera=()",
                 "tidied ",
                 "unloaded 2",

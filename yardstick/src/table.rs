@@ -86,7 +86,8 @@ impl Document {
     /// unless the container's value is Enabled for the container's own origin
     /// and for the arriving origin; then, if the attribute has the feature, by
     /// its list; else Enabled for default *; else Enabled only for the
-    /// container's own origin."
+    /// container's own origin." What the attribute has is settled with R-1's
+    /// step: a sandbox attribute of the frame's own gives lists too.
     fn inherited_by_frame(
         &self,
         feature: usize,
@@ -132,8 +133,13 @@ impl Document {
         declared: &Origin<'static>,
         arriving: &Origin,
     ) -> [Decision; FEATURE_COUNT] {
-        let attributes =
-            container_policy(frame.allow, frame.allowfullscreen, &self.origin, declared);
+        let attributes = container_policy(
+            frame.allow,
+            frame.allowfullscreen,
+            frame.sandbox,
+            &self.origin,
+            declared,
+        );
         std::array::from_fn(|feature| {
             self.inherited_by_frame(feature, &attributes[feature], arriving)
         })

@@ -1,4 +1,5 @@
-//! The cases of document 01, and the refusal table with its order.
+//! The cases of document 01, the refusal table with its order, and R-1 with the
+//! examples of document 001.
 
 use super::*;
 
@@ -9,9 +10,24 @@ const C: &str = "https://c.example";
 const CAMERA: u32 = 0;
 const FORMS: u32 = 3;
 const SCREEN: u32 = 4;
+const MODALS: u32 = 7;
+const PLUGINS: u32 = 10;
+const POINTER_LOCK: u32 = 11;
+const POPUPS: u32 = 12;
+const SCRIPTS: u32 = 14;
+
+/// The ten features with default *: 2, 3, 7, 8, 10 to 15.
+const TEN: u32 = 64_908;
+/// All seventeen.
+const ALL: u32 = 131_071;
+/// The ten without plugins: those that have a keyword.
+const NINE: u32 = 63_884;
+const NINE_KEYWORDS: &str = "allow-downloads-without-user-activation allow-forms \
+    allow-modals allow-orientation-lock allow-pointer-lock allow-popups \
+    allow-presentation allow-scripts allow-top-navigation";
 
 /// A frame with document 01's usual case: src and document at b.
-#[derive(Clone)]
+#[derive(Clone, Debug)]
 struct Case<'a> {
     container: u32,
     origin: &'a str,
@@ -258,6 +274,256 @@ fn a_sandboxed_container_sandboxes() {
         ..case(1)
     };
     assert_eq!(allowed.load(&mut table), Ok(5));
+}
+
+// ------------------------------------------------- R-1, document 001
+
+/// A frame with a sandbox attribute in the container 1. Without
+/// `allow-same-origin` its document's origin must be `null`.
+fn sandboxed<'a>(sandbox: &'a str, allow: &'a str) -> Case<'a> {
+    let same_origin = sandbox.to_ascii_lowercase().contains("allow-same-origin");
+    Case {
+        origin: if same_origin { B } else { "null" },
+        allow,
+        sandbox: Some(sandbox),
+        ..case(1)
+    }
+}
+
+/// The number of enabled features after loading the case in a container with
+/// the header; the forecast must be the same.
+fn features_in(header: &str, case: Case) -> u32 {
+    let mut table = container(header);
+    let forecast = case.forecast(&table).expect("accepted");
+    let serial = case.load(&mut table).expect("accepted");
+    assert_eq!(table.enabled_features(serial), Ok(forecast), "{case:?}");
+    forecast
+}
+
+/// Bit n for each feature n.
+fn set(features: &[u32]) -> u32 {
+    features.iter().fold(0, |bits, feature| bits | 1 << feature)
+}
+
+#[test]
+fn an_empty_sandbox_attribute_closes_the_ten() {
+    // 001: `<iframe sandbox></iframe>`; downloads-without-user-activation, which
+    // its example leaves out, as well.
+    assert_eq!(features_in("", case(1)), TEN);
+    assert_eq!(features_in("", sandboxed("", "")), 0);
+    assert_eq!(features_in("", sandboxed(" \t\n\x0c\r", "")), 0);
+    // With `allow-same-origin` too.
+    assert_eq!(features_in("", sandboxed("allow-same-origin", "")), 0);
+    // The seven with default self are as before: at the container's own origin.
+    let own = Case {
+        src: "",
+        origin: "",
+        ..sandboxed("allow-same-origin", "")
+    };
+    assert_eq!(features_in("", own), ALL - TEN);
+    let camera = sandboxed("allow-same-origin", "camera");
+    assert_eq!(features_in("", camera), set(&[CAMERA]));
+    let screen = Case {
+        allowfullscreen: true,
+        ..sandboxed("", "")
+    };
+    assert_eq!(features_in("", screen), set(&[SCREEN]));
+}
+
+#[test]
+fn keywords_open() {
+    // 001: `sandbox="allow-scripts allow-modals"`.
+    let two = sandboxed("allow-scripts allow-modals", "");
+    assert_eq!(features_in("", two), set(&[SCRIPTS, MODALS]));
+    // 001: "every sandbox `allow-` keyword could be specified"; plugins stay
+    // closed.
+    assert_eq!(features_in("", sandboxed(NINE_KEYWORDS, "")), NINE);
+    let upper = NINE_KEYWORDS.to_uppercase();
+    assert_eq!(features_in("", sandboxed(&upper, "")), NINE);
+    let with = format!("{NINE_KEYWORDS} allow-same-origin");
+    assert_eq!(features_in("", sandboxed(&with, "")), NINE);
+    // 001: two keywords that correspond to no feature; and there is no
+    // `allow-plugins`.
+    let none = "allow-popups-to-escape-sandbox allow-plugins allow-same-origin";
+    assert_eq!(features_in("", sandboxed(none, "")), 0);
+}
+
+#[test]
+fn a_bare_name_needs_the_declared_origin() {
+    // 001: `<iframe sandbox="allow-scripts">` and `<iframe sandbox
+    // allow="scripts">`. Here the second stays Disabled.
+    let scripts = set(&[SCRIPTS]);
+    assert_eq!(features_in("", sandboxed("allow-scripts", "")), scripts);
+    assert_eq!(features_in("", sandboxed("", "scripts")), 0);
+    assert_eq!(features_in("", sandboxed("", "scripts 'src'")), 0);
+    assert_eq!(features_in("", sandboxed("", "scripts *")), scripts);
+    let same_origin = "allow-same-origin";
+    assert_eq!(features_in("", sandboxed(same_origin, "scripts")), scripts);
+    // Judged by what arrives.
+    let elsewhere = Case {
+        origin: C,
+        ..sandboxed(same_origin, "scripts")
+    };
+    assert!(!enabled_in("", elsewhere, SCRIPTS));
+}
+
+#[test]
+fn nothing_else_opens_what_sandbox_closed() {
+    // 001: neither the content's own header nor a nested frame's allow.
+    let mut table = container("");
+    let outer = Case {
+        header: "scripts=*",
+        ..sandboxed("", "")
+    };
+    assert_eq!(outer.load(&mut table), Ok(2));
+    assert!(!ask(&table, 2, SCRIPTS, ""));
+    for (sandbox, allow) in [
+        (None, "scripts"),
+        (None, "scripts *"),
+        (Some("allow-scripts"), "scripts *"),
+    ] {
+        let nested = Case {
+            origin: "null",
+            sandbox,
+            allow,
+            ..case(2)
+        };
+        assert_eq!(nested.forecast(&table), Ok(0));
+        let serial = nested.load(&mut table).expect("accepted");
+        assert_eq!(table.enabled_features(serial), Ok(0));
+    }
+    // Nor does a keyword open what the container's header closed.
+    assert_eq!(
+        features_in("forms=()", sandboxed("allow-forms", "forms *")),
+        0
+    );
+    let own_only = sandboxed("allow-same-origin allow-forms", "");
+    assert_eq!(features_in("forms=self", own_only), 0);
+    // And what a keyword opened the document's own header closes.
+    let closing = Case {
+        header: "popups=()",
+        ..sandboxed("allow-popups", "")
+    };
+    assert!(!enabled_in("", closing, POPUPS));
+}
+
+#[test]
+fn allow_takes_precedence() {
+    // 001: `sandbox="allow-scripts" allow="scripts 'none'"`.
+    assert_eq!(
+        features_in("", sandboxed("allow-scripts", "scripts 'none'")),
+        0
+    );
+    assert_eq!(features_in("", sandboxed("allow-scripts", "scripts")), 0);
+    assert_eq!(
+        features_in("", sandboxed("allow-scripts", "scripts *; scripts 'none'")),
+        0
+    );
+    // An unknown name is no entry.
+    assert_eq!(
+        features_in("", sandboxed("allow-scripts", "Scripts 'none'")),
+        set(&[SCRIPTS])
+    );
+    // 001: `sandbox="allow-scripts allow-same-origin" allow="scripts
+    // https://example.com"`: "only [...] when pointed at a particular origin".
+    let pointed = |origin| Case {
+        src: origin,
+        origin,
+        ..sandboxed(
+            "allow-scripts allow-same-origin",
+            "scripts https://example.com",
+        )
+    };
+    assert_eq!(
+        features_in("", pointed("https://example.com")),
+        set(&[SCRIPTS])
+    );
+    assert_eq!(features_in("", pointed(B)), 0);
+}
+
+#[test]
+fn plugins_stay_closed() {
+    // 001: `<iframe sandbox allow="plugins"></iframe>`.
+    for sandbox in ["", "allow-same-origin", "allow-plugins", "Allow-Plugins x"] {
+        for allow in [
+            "",
+            "plugins",
+            "plugins *",
+            "plugins 'src'",
+            "plugins https:",
+        ] {
+            assert_eq!(features_in("", sandboxed(sandbox, allow)), 0);
+        }
+    }
+    let without = Case {
+        allow: "plugins",
+        ..case(1)
+    };
+    assert!(enabled_in("", without, PLUGINS));
+}
+
+#[test]
+fn the_ten_without_sandboxing() {
+    // 001: `<iframe allow="pointer-lock 'none'">`, and a header for modals.
+    let frame = Case {
+        allow: "pointer-lock 'none'",
+        ..case(1)
+    };
+    assert_eq!(features_in("", frame), TEN - set(&[POINTER_LOCK]));
+    let table = container("modals=()");
+    assert_eq!(table.enabled_features(1), Ok(ALL - set(&[MODALS])));
+}
+
+#[test]
+fn only_a_frames_own_attribute_closes() {
+    let mut table = container("");
+    let outer = sandboxed("allow-forms allow-scripts", "popups *");
+    assert_eq!(outer.load(&mut table), Ok(2));
+    let kept = set(&[FORMS, SCRIPTS, POPUPS]);
+    assert_eq!(table.enabled_features(2), Ok(kept));
+    // Without an attribute a frame keeps what the sandboxed container has, two
+    // levels beneath too; with one it doesn't.
+    let mut deepest = 2;
+    for _ in 0..2 {
+        for (sandbox, allow, features) in [
+            (Some(""), "", 0),
+            (Some("allow-same-origin"), "", 0),
+            (Some("allow-scripts allow-modals"), "", set(&[SCRIPTS])),
+            (Some("allow-scripts"), "forms *", set(&[SCRIPTS, FORMS])),
+            (None, "forms 'none'", kept - set(&[FORMS])),
+            (None, "", kept),
+        ] {
+            let inner = Case {
+                origin: "null",
+                sandbox,
+                allow,
+                ..case(deepest)
+            };
+            assert_eq!(inner.forecast(&table), Ok(features));
+            let serial = inner.load(&mut table).expect("accepted");
+            assert_eq!(table.enabled_features(serial), Ok(features));
+        }
+        deepest = table.last_serial;
+    }
+}
+
+#[test]
+fn keywords_change_no_refusal() {
+    let mut table = container("");
+    for sandbox in ["", "allow-scripts", NINE_KEYWORDS] {
+        let tuple = Case {
+            origin: B,
+            ..sandboxed(sandbox, "")
+        };
+        assert_eq!(tuple.load(&mut table), Err(Refusal::Sandbox));
+    }
+    // 1,024 bytes are read to the end.
+    let long = format!("{}allow-forms", " ".repeat(1013));
+    assert_eq!(features_in("", sandboxed(&long, "")), set(&[FORMS]));
+    let over = format!(" {long}");
+    let over = sandboxed(&over, "");
+    assert_eq!(over.load(&mut table), Err(Refusal::TooLong));
+    assert_eq!(over.forecast(&table), Err(Refusal::TooLong));
 }
 
 #[test]
