@@ -1,5 +1,36 @@
 //! What the answers so far say about the table: enough to aim calls at it.
 
+use crate::attributes::{container_policy, features_by_keyword, sandboxes};
+use crate::features::FEATURE_COUNT;
+use crate::origins::Origin;
+use crate::replay;
+
+/// What a frame with a sandbox attribute of its own says of the features.
+#[derive(Clone, Copy, Debug)]
+pub struct SandboxedFrame {
+    /// Those whose keyword stands.
+    pub keywords: [bool; FEATURE_COUNT],
+    /// Those that its allow attribute names.
+    pub named: [bool; FEATURE_COUNT],
+    /// Whether `allow-same-origin` stands.
+    pub same_origin: bool,
+}
+
+impl SandboxedFrame {
+    /// Of a framed load or a forecast; nothing if it has no sandbox attribute.
+    pub fn of_line(line: &[u8]) -> Option<Self> {
+        let (allow, sandbox) = replay::attributes_of(line)?;
+        let sandbox = sandbox?;
+        let origin = Origin::FreshOpaque;
+        let policy = container_policy(&allow, false, None, &origin, &origin);
+        Some(SandboxedFrame {
+            keywords: features_by_keyword(&sandbox),
+            named: std::array::from_fn(|feature| policy[feature].is_some()),
+            same_origin: !sandboxes(Some(&sandbox)),
+        })
+    }
+}
+
 #[derive(Clone, Debug)]
 pub struct Known {
     pub serial: u32,
@@ -8,6 +39,18 @@ pub struct Known {
     pub depth: usize,
     /// By the generator's own guess; only used to aim.
     pub sandboxed: bool,
+    /// What its frame says, if that has a sandbox attribute.
+    pub own_sandbox: Option<SandboxedFrame>,
+    /// How many levels it is beneath the nearest document whose frame has a
+    /// sandbox attribute; nothing if there is none above.
+    pub beneath_sandbox: Option<usize>,
+}
+
+impl Known {
+    /// Whether its frame or one above has a sandbox attribute.
+    pub fn in_sandbox(&self) -> bool {
+        self.own_sandbox.is_some() || self.beneath_sandbox.is_some()
+    }
 }
 
 #[derive(Clone, Debug, Default)]
@@ -40,6 +83,16 @@ impl Model {
         !self.live.iter().any(|d| d.container == Some(serial))
     }
 
+    /// For a frame in this container: how many levels it is beneath the nearest
+    /// document whose frame has a sandbox attribute.
+    pub fn levels_beneath_sandbox(&self, container: u32) -> Option<usize> {
+        let container = self.get(container)?;
+        match container.own_sandbox {
+            Some(_) => Some(1),
+            None => container.beneath_sandbox.map(|levels| levels + 1),
+        }
+    }
+
     /// Takes note of a call and its answer.
     pub fn observe(&mut self, line: &[u8], answer: &[u8], sandboxed: bool) {
         if let Some(rest) = answer.strip_prefix(b"loaded ") {
@@ -54,12 +107,15 @@ impl Model {
             let depth = container
                 .and_then(|c| self.get(c))
                 .map_or(0, |c| c.depth + 1);
+            let beneath_sandbox = container.and_then(|c| self.levels_beneath_sandbox(c));
             self.last_serial = serial;
             self.live.push(Known {
                 serial,
                 container,
                 depth,
                 sandboxed,
+                own_sandbox: SandboxedFrame::of_line(line),
+                beneath_sandbox,
             });
         } else if answer.starts_with(b"unloaded ") {
             let Some(serial) = parse_number(field(line, 1)) else {

@@ -2,7 +2,7 @@
 
 use super::model::{Known, Model};
 use super::random::Random;
-use super::texts::{self, Mood, OriginShares};
+use super::texts::{self, Mood, OriginShares, Sandbox};
 use super::Session;
 use crate::features::FEATURE_COUNT;
 use crate::limits::{MAX_DOCUMENTS, MAX_TIDIED_BYTES};
@@ -204,9 +204,10 @@ impl Generator {
     }
 
     fn frame(&mut self) -> (Vec<u8>, bool) {
-        let container = self.container();
-        let (sandbox, attribute_sandboxes) = self.sandbox_field();
-        let sandboxed = attribute_sandboxes || self.is_sandboxed(container);
+        let sandbox = self.sandbox();
+        let container = self.container_beside(&sandbox);
+        let sandboxed = sandbox.as_ref().is_some_and(|s| !s.same_origin);
+        let sandboxed = sandboxed || self.is_sandboxed(container);
         let src = self.src();
         // Mostly what was announced arrives; sandboxed frames must be null.
         let origin = if sandboxed && !self.random.percent(15) {
@@ -221,7 +222,7 @@ impl Generator {
             };
             texts::origin_text(&mut self.random, &self.style.mood, shares)
         };
-        let allow = texts::allow(&mut self.random, &self.style.mood);
+        let allow = self.allow(&sandbox);
         let header = if self.random.percent(35) {
             Vec::new()
         } else {
@@ -233,23 +234,23 @@ impl Generator {
             self.text(&src),
             self.flag(),
             self.text(&allow),
-            sandbox,
+            self.sandbox_field(&sandbox),
             self.text(&header),
         ];
         (line("frame", &fields), sandboxed)
     }
 
     fn forecast(&mut self) -> Vec<u8> {
-        let container = self.container();
-        let (sandbox, _) = self.sandbox_field();
+        let sandbox = self.sandbox();
+        let container = self.container_beside(&sandbox);
         let src = self.src();
-        let allow = texts::allow(&mut self.random, &self.style.mood);
+        let allow = self.allow(&sandbox);
         let fields = [
             container.to_string().into_bytes(),
             self.text(&src),
             self.flag(),
             self.text(&allow),
-            sandbox,
+            self.sandbox_field(&sandbox),
         ];
         line("forecast", &fields)
     }
@@ -275,6 +276,8 @@ impl Generator {
             *self
                 .random
                 .pick(&[17, 17, 18, 31, 32, 255, 256, 65536, u32::MAX])
+        } else if self.model.get(serial).is_some_and(Known::in_sandbox) && self.random.percent(50) {
+            texts::default_all_feature(&mut self.random, &self.style.mood) as u32
         } else if self.random.percent(65) {
             *self.random.pick(&self.style.mood.features) as u32
         } else {
@@ -405,15 +408,37 @@ impl Generator {
         self.random.pick(&["0", "0", "1"]).as_bytes().to_vec()
     }
 
-    /// The field, and whether the attribute is meant to sandbox.
-    fn sandbox_field(&mut self) -> (Vec<u8>, bool) {
-        if !self.random.percent(self.style.mood.sandbox) {
-            return (b"0".to_vec(), false);
+    /// The container of a frame with this attribute: more often one in which
+    /// nothing is closed yet.
+    fn container_beside(&mut self, sandbox: &Option<Sandbox>) -> u32 {
+        let container = self.container();
+        let open = self.where_known(|_, d| !d.in_sandbox());
+        if sandbox.is_some() && !open.is_empty() && self.random.percent(25) {
+            return *self.random.pick(&open);
         }
-        let (text, same_origin) = texts::sandbox(&mut self.random, &self.style.mood);
-        let mut field = b"1".to_vec();
-        field.extend_from_slice(&self.text(&text));
-        (field, !same_origin)
+        container
+    }
+
+    fn allow(&mut self, sandbox: &Option<Sandbox>) -> Vec<u8> {
+        let mood = &self.style.mood;
+        match sandbox {
+            None => texts::allow(&mut self.random, mood),
+            Some(sandbox) => texts::allow_beside_sandbox(&mut self.random, mood, sandbox),
+        }
+    }
+
+    fn sandbox(&mut self) -> Option<Sandbox> {
+        let mood = &self.style.mood;
+        self.random
+            .percent(mood.sandbox)
+            .then(|| texts::sandbox(&mut self.random, mood))
+    }
+
+    fn sandbox_field(&mut self, sandbox: &Option<Sandbox>) -> Vec<u8> {
+        match sandbox {
+            None => b"0".to_vec(),
+            Some(sandbox) => [b"1".to_vec(), self.text(&sandbox.text)].concat(),
+        }
     }
 
     /// A text as a field, now and then with needless `%XX`.
@@ -556,7 +581,23 @@ impl Generator {
         };
         let fullscreen = sandbox - 2;
         if self.random.percent(50) {
-            let choices = ["2", "", "0x", "%31", "%30", "01", "00", " 1", "x", "-"];
+            let choices = [
+                "2",
+                "",
+                "0x",
+                "%31",
+                "%30",
+                "01",
+                "00",
+                " 1",
+                "x",
+                "-",
+                // No attribute, and yet a text.
+                "0allow-scripts",
+                "0 allow-same-origin allow-forms",
+                "0%20",
+                "allow-scripts",
+            ];
             fields[sandbox] = self.random.pick(&choices).as_bytes().to_vec();
         } else {
             let choices = ["2", "", "00", "01", "11", "%31", "%30", "true", "0 ", "-0"];

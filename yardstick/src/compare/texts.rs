@@ -2,7 +2,8 @@
 //! good ones, near misses and damaged ones.
 
 use super::random::Random;
-use crate::features::{FEATURES, FEATURE_COUNT};
+use crate::attributes::features_by_keyword;
+use crate::features::{default_is_all, FEATURES, FEATURE_COUNT, PLUGINS};
 use crate::limits::{
     MAX_FRACTION_DIGITS, MAX_HOST_BYTES, MAX_INTEGER_DIGITS, MAX_TEXT_BYTES, MAX_WHOLE_DIGITS,
 };
@@ -40,6 +41,11 @@ impl Mood {
             .collect();
         // The features of the edge cases: camera, forms, fullscreen.
         features.extend([0, 3, 4].iter().filter(|_| random.percent(60)));
+        let sandbox = *random.pick(&[0, 15, 25, 60, 80]);
+        // Where sandbox attributes are usual, some of what they close.
+        if sandbox >= 60 {
+            features.extend((0..2).map(|_| *random.pick(&default_all_features())));
+        }
         let mut origins = vec![
             "https://a.example".to_string(),
             "https://b.example".to_string(),
@@ -53,7 +59,7 @@ impl Mood {
             damage: *random.pick(&[0, 3, 10, 10, 25]),
             long: *random.pick(&[0, 5, 15, 40]),
             escapes: *random.pick(&[0, 5, 30]),
-            sandbox: *random.pick(&[0, 15, 25, 60]),
+            sandbox,
         }
     }
 
@@ -412,6 +418,22 @@ const BAD_EXPRESSION_PORTS: &[&str] = &[
 ];
 
 // -------------------------------------------------------------- headers
+
+/// The ten features with default `*`, which a sandbox attribute closes.
+fn default_all_features() -> Vec<usize> {
+    (0..FEATURE_COUNT).filter(|&f| default_is_all(f)).collect()
+}
+
+/// One of the ten, half of the time one that the session is about.
+pub fn default_all_feature(random: &mut Random, mood: &Mood) -> usize {
+    let mut liked = mood.features.clone();
+    liked.retain(|&f| default_is_all(f));
+    if !liked.is_empty() && random.percent(50) {
+        *random.pick(&liked)
+    } else {
+        *random.pick(&default_all_features())
+    }
+}
 
 fn feature_name(random: &mut Random, mood: &Mood) -> &'static str {
     let feature = if random.percent(85) {
@@ -969,29 +991,194 @@ pub fn allow(random: &mut Random, mood: &Mood) -> Vec<u8> {
     text
 }
 
-/// A sandbox attribute: its text, and whether it is meant to hold
-/// `allow-same-origin`.
-pub fn sandbox(random: &mut Random, mood: &Mood) -> (Vec<u8>, bool) {
-    let same_origin = random.percent(35);
-    let mut words: Vec<String> = Vec::new();
-    for _ in 0..*random.pick(&[0, 0, 1, 2]) {
-        words.push(
-            random
-                .pick(&[
-                    "allow-scripts",
-                    "allow-forms",
-                    "allow-same-originx",
-                    "xallow-same-origin",
-                    "allow-same-origi",
-                    "allow_same_origin",
-                    "allow-same-origin,",
-                    "allow-\u{17f}ame-origin",
-                    "'allow-same-origin'",
-                    "allow-same-origin;",
-                ])
-                .to_string(),
-        );
+/// An allow attribute for a frame with this sandbox attribute: mostly entries
+/// for the ten features, with every kind of list.
+pub fn allow_beside_sandbox(random: &mut Random, mood: &Mood, sandbox: &Sandbox) -> Vec<u8> {
+    if random.percent(40) {
+        return allow(random, mood);
     }
+    let keywords = features_by_keyword(&sandbox.text);
+    let with_keyword: Vec<usize> = (0..FEATURE_COUNT).filter(|&f| keywords[f]).collect();
+    let mut pieces = Vec::new();
+    for _ in 0..*random.pick(&[1, 1, 2, 2, 3, 5]) {
+        let feature = if random.percent(12) {
+            PLUGINS
+        } else if !with_keyword.is_empty() && random.percent(40) {
+            *random.pick(&with_keyword)
+        } else {
+            default_all_feature(random, mood)
+        };
+        let name = FEATURES[feature].name;
+        let mut piece = if random.percent(4) {
+            mixed_case(random, name).into_bytes()
+        } else {
+            name.as_bytes().to_vec()
+        };
+        let list = match random.below(14) {
+            0..=2 => Vec::new(),
+            3..=6 => b"*".to_vec(),
+            7 => maybe_mixed_case(random, "'self'").into_bytes(),
+            8 => maybe_mixed_case(random, "'src'").into_bytes(),
+            9..=10 => maybe_mixed_case(random, "'none'").into_bytes(),
+            11 => b"https:".to_vec(),
+            12 => expression(random, mood),
+            _ => allow_word(random, mood),
+        };
+        if !list.is_empty() || random.percent(20) {
+            piece.extend_from_slice(whitespace(random).as_bytes());
+            piece.extend_from_slice(&list);
+        }
+        pieces.push(piece);
+    }
+    let mut text = pieces.join(random.word(&[";", ";", "; ", ";\n", " ;"]).as_bytes());
+    if random.percent(mood.damage / 2) {
+        damage(random, &mut text);
+    }
+    text
+}
+
+/// A feature's keyword, in lower, upper or odd case.
+fn keyword(random: &mut Random, feature: usize) -> String {
+    let keyword = format!("allow-{}", FEATURES[feature].name);
+    match random.below(10) {
+        0..=5 => keyword,
+        6..=7 => keyword.to_ascii_uppercase(),
+        _ => mixed_case(random, &keyword),
+    }
+}
+
+/// Words of sandbox attributes that are no feature's keyword.
+const OTHER_SANDBOX_WORDS: &[&str] = &[
+    "allow-plugins",
+    "allow-plugins",
+    "Allow-Plugins",
+    "ALLOW-PLUGINS",
+    "allow-camera",
+    "allow-fullscreen",
+    "allow-payment",
+    "allow-downloads",
+    "allow-downloads-without",
+    "allow-popups-to-escape-sandbox",
+    "allow-top-navigation-by-user-activation",
+    "allow-orientation",
+    "allow-pointer",
+    "allow-top",
+    "allow-",
+    "allow",
+    "allow-*",
+    "allow-all",
+    "*",
+    "-",
+];
+
+/// Mostly no keyword, but close to one.
+fn near_keyword(random: &mut Random, mood: &Mood) -> String {
+    let feature = default_all_feature(random, mood);
+    let name = FEATURES[feature].name;
+    let attached = *random.pick(&["\x0b", "\0", ";", ",", "\u{a0}", "=", "'", "\"", "."]);
+    match random.below(14) {
+        0..=2 => random.pick(OTHER_SANDBOX_WORDS).to_string(),
+        3 => format!(
+            "allow-{name}{}",
+            random.pick(&["2", "s", "x", "-", "_", "*"])
+        ),
+        4 => format!("allow-{}", &name[..name.len() - 1]),
+        5 => format!("allow-{}", &name[1..]),
+        6 => format!(
+            "{}{name}",
+            random.pick(&[
+                "allow_",
+                "allow",
+                "allow--",
+                "allow ",
+                "allow-\x0b",
+                "deny-",
+                "llow-"
+            ])
+        ),
+        7 => name.to_string(),
+        8 => format!("{}allow-{name}", random.pick(&["x", "-", "allow-", "dis"])),
+        9 => format!("allow-{name}{attached}"),
+        10 => format!("{attached}allow-{name}"),
+        // Two that are not parted.
+        11 => {
+            let other = default_all_feature(random, mood);
+            let other = keyword(random, other);
+            format!("allow-{name}{}{other}", random.pick(&["", attached]))
+        }
+        12 if name.contains('-') => {
+            let hyphen = *random.pick(&["_", "", " ", "--"]);
+            format!("allow-{}", name.replacen('-', hyphen, 1))
+        }
+        // Letters that only Unicode folds to these.
+        _ => format!("allow-{name}")
+            .replacen('s', "\u{17f}", 1)
+            .replacen('k', "\u{212a}", 1),
+    }
+}
+
+const NEAR_SAME_ORIGIN: &[&str] = &[
+    "allow-same-originx",
+    "xallow-same-origin",
+    "allow-same-origi",
+    "allow_same_origin",
+    "allow-same-origin,",
+    "allow-\u{17f}ame-origin",
+    "'allow-same-origin'",
+    "allow-same-origin;",
+];
+
+/// The words of a sandbox attribute but `allow-same-origin`: none, a few, or
+/// most keywords.
+fn sandbox_words(random: &mut Random, mood: &Mood) -> Vec<String> {
+    let mut words: Vec<String> = Vec::new();
+    match random.below(10) {
+        0..=1 => {}
+        2..=4 => {
+            let mut features = default_all_features();
+            for index in 0..features.len() {
+                let other = random.between(index, features.len() - 1);
+                features.swap(index, other);
+            }
+            features.truncate(random.between(5, features.len()));
+            for feature in features {
+                words.push(keyword(random, feature));
+            }
+        }
+        _ => {
+            for _ in 0..*random.pick(&[1, 1, 1, 2, 2, 3, 4]) {
+                let word = match random.below(20) {
+                    0..=10 => {
+                        let feature = default_all_feature(random, mood);
+                        keyword(random, feature)
+                    }
+                    11..=15 => near_keyword(random, mood),
+                    16..=17 => random.pick(NEAR_SAME_ORIGIN).to_string(),
+                    // One of the earlier again.
+                    _ if !words.is_empty() => {
+                        let earlier = random.pick(&words).clone();
+                        maybe_mixed_case(random, &earlier)
+                    }
+                    _ => random.pick(OTHER_SANDBOX_WORDS).to_string(),
+                };
+                words.push(word);
+            }
+        }
+    }
+    words
+}
+
+/// A sandbox attribute.
+#[derive(Clone, Debug)]
+pub struct Sandbox {
+    pub text: Vec<u8>,
+    /// Whether it is meant to hold `allow-same-origin`.
+    pub same_origin: bool,
+}
+
+pub fn sandbox(random: &mut Random, mood: &Mood) -> Sandbox {
+    let same_origin = random.percent(35);
+    let mut words = sandbox_words(random, mood);
     if same_origin {
         let place = random.below(words.len() + 1);
         let word = if random.percent(50) {
@@ -1020,14 +1207,29 @@ pub fn sandbox(random: &mut Random, mood: &Mood) -> (Vec<u8>, bool) {
     }
     if random.permille(mood.long) {
         let missing = text_length(random).saturating_sub(text.len());
-        let padding = vec![*random.pick(b"  \nx"); missing];
+        let padding = sandbox_padding(random, mood, missing);
         if random.percent(50) {
             text.extend_from_slice(&padding);
         } else {
             text = [padding, text].concat();
         }
     }
-    (text, same_origin)
+    Sandbox { text, same_origin }
+}
+
+/// So many bytes beside what counts: one byte over and over, or one word.
+fn sandbox_padding(random: &mut Random, mood: &Mood, length: usize) -> Vec<u8> {
+    if random.percent(70) {
+        return vec![*random.pick(b"  \nx"); length];
+    }
+    let word = if random.percent(50) {
+        let feature = default_all_feature(random, mood);
+        keyword(random, feature)
+    } else {
+        near_keyword(random, mood)
+    };
+    let word = format!("{}{word} ", whitespace(random));
+    word.bytes().cycle().take(length).collect()
 }
 
 #[cfg(test)]
@@ -1089,6 +1291,34 @@ mod tests {
             }
         });
         assert!(lengths.iter().all(|&count| count > 100), "{lengths:?}");
+    }
+
+    #[test]
+    fn sandbox_texts_have_every_keyword() {
+        let mut stands = [0; FEATURE_COUNT];
+        let mut none = 0;
+        many(|random, mood| {
+            let keywords = features_by_keyword(&sandbox(random, mood).text);
+            for (count, stands) in stands.iter_mut().zip(keywords) {
+                *count += usize::from(stands);
+            }
+            none += usize::from(!keywords.contains(&true));
+        });
+        for (feature, count) in stands.iter().enumerate() {
+            let has_keyword = default_is_all(feature) && feature != PLUGINS;
+            assert_eq!(*count > 300, has_keyword, "{}", FEATURES[feature].name);
+        }
+        assert!((500..1800).contains(&none), "{none}");
+    }
+
+    #[test]
+    fn near_keywords_are_mostly_none() {
+        let mut keywords = 0;
+        many(|random, mood| {
+            let word = near_keyword(random, mood);
+            keywords += usize::from(features_by_keyword(word.as_bytes()).contains(&true));
+        });
+        assert!(keywords < 300, "{keywords}");
     }
 
     #[test]

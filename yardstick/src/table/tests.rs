@@ -2,6 +2,8 @@
 //! examples of document 001.
 
 use super::*;
+use crate::compare::random::Random;
+use crate::compare::texts::{self, Mood};
 
 const A: &str = "https://a.example";
 const B: &str = "https://b.example";
@@ -524,6 +526,51 @@ fn keywords_change_no_refusal() {
     let over = sandboxed(&over, "");
     assert_eq!(over.load(&mut table), Err(Refusal::TooLong));
     assert_eq!(over.forecast(&table), Err(Refusal::TooLong));
+}
+
+/// Demand 3 "gains: adding one of these keywords to a sandbox attribute never
+/// takes an Enabled away".
+#[test]
+fn an_added_keyword_takes_nothing_away() {
+    let mut gained = 0;
+    for seed in 0..3000 {
+        let mut random = Random::new(seed);
+        let mood = Mood::new(&mut random);
+        let mut table = container("");
+        let header = texts::header(&mut random, &mood);
+        let sandbox = texts::sandbox(&mut random, &mood);
+        let allow = texts::allow_beside_sandbox(&mut random, &mood, &sandbox);
+        let mut sandbox = sandbox.text;
+        let keyword = *random.pick(&NINE_KEYWORDS.split(' ').collect::<Vec<_>>());
+        let mut features = |sandbox: &[u8]| {
+            let frame = Frame {
+                container: 1,
+                src: B.as_bytes(),
+                allowfullscreen: false,
+                allow: &allow,
+                sandbox: Some(sandbox),
+            };
+            let forecast = table.forecast(&frame)?;
+            let origin: &[u8] = if sandboxes(Some(sandbox)) {
+                b"null"
+            } else {
+                B.as_bytes()
+            };
+            let loaded = table.load_framed(&frame, origin, &header)?;
+            Ok::<_, Refusal>((forecast, table.enabled_features(loaded.serial)?))
+        };
+        let first = features(&sandbox);
+        // A space on both sides, so that no word changes.
+        let place = random.below(2) * sandbox.len();
+        sandbox.splice(place..place, format!(" {keyword} ").into_bytes());
+        let second = features(&sandbox);
+        if let (Ok(first), Ok(second)) = (first, second) {
+            assert_eq!(first.0 & !second.0, 0);
+            assert_eq!(first.1 & !second.1, 0);
+            gained += usize::from(second.0 != first.0);
+        }
+    }
+    assert!(gained > 500, "{gained}");
 }
 
 #[test]
