@@ -7,13 +7,14 @@ use mathlib.Core.Option.{Option, some, none}
 use native.Mathlib.Omega.{arith}
 use lib.Dec.{eqb, ltb}
 use lib.ListN.{drop}
-use borrow.Author.Tests.{ltb-true, ltb-false}
+use borrow.Author.Tests.{ltb-true, ltb-false, ne-eqb}
 use Rattle.ascii.specs.Bytes.{pick, lower}
 use Rattle.ascii.specs.Literals.{text}
 use Rattle.ascii.specs.Texts.{sameLowered}
 use Rattle.ascii.proofs.Clash.{clash}
 use Rattle.ascii.proofs.Texts.{same-is}
-use Rattle.features.specs.Features.{featureCount, nameOf, featureOf}
+use Rattle.features.specs.Features.{Default, featureCount, nameOf, defaultOf, featureOf}
+use Rattle.features.specs.Features.Default.{star, self}
 use Rattle.features.specs.Computing.{computing}
 use Rattle.features.proofs.Laws.{unknown, name-none}
 use Rattle.origins.specs.Origins.{Origin, TupleOrigin, OriginSaid, originOf}
@@ -29,7 +30,7 @@ use Rattle.pieces.specs.Words.{entryList}
 use Rattle.pieces.proofs.Laws.{empty-entry, Grown, entry-grown, word-wider, keyword-more as more-words, keyword-other}
 use Rattle.pieces.proofs.Laws.Grown.{same, grown}
 use Rattle.containers.specs.Attributes.{Attributes}
-use Rattle.containers.specs.Policies.{isSemicolon, fullscreen, plugins, entryElse, allowedFullscreen, hasDefaultStar, keywordOf, keywordStands, sandboxCloses, closesPlugins, attributePolicy, containerPolicy}
+use Rattle.containers.specs.Policies.{isSemicolon, fullscreen, plugins, entryElse, allowedFullscreen, isStar, hasDefaultStar, keywordOf, keywordStands, sandboxCloses, closesPlugins, attributePolicy, containerPolicy}
 use Rattle.containers.specs.Sandboxes.{sandboxWords, allowSameOrigin, withoutSameOrigin, sandboxes, isSandboxed, srcOrigin, freshIf, declaredOrigin}
 use Rattle.containers.specs.Widening.{WordMore, OneKeywordMore, KeywordMore}
 use Rattle.containers.specs.Widening.WordMore.{word-more}
@@ -48,6 +49,46 @@ plugins-name = refl
 pub policy-attributes : (a : Attributes) (n : ℕ) → containerPolicy a n ≡ attributePolicy (a .allow) (a .allowfullscreen) (sandboxWords (a .hasSandbox) (a .sandbox)) n
 unfolding containerPolicy
 policy-attributes a n = refl
+
+-- 02, R-1, step by step, of a frame with a sandbox attribute. Plugins: the empty list
+module _ (allow : List ℕ) (mark : Bool) (ws : List (List ℕ)) where
+  pub step-plugins : attributePolicy allow mark (some ws) plugins ≡ some emptyList
+  unfolding attributePolicy closesPlugins pick
+  step-plugins = refl
+
+  module _ (n : ℕ) (other : n ≡ plugins → ⊥) where
+    -- an entry: its list decides
+    pub step-entry : (vs : List (List ℕ)) → entryOf isSemicolon allow n ≡ some vs → attributePolicy allow mark (some ws) n ≡ some (entryList src vs)
+    unfolding attributePolicy closesPlugins entryElse pick
+    step-entry vs e = rw (ne-eqb n plugins other, e)
+
+    -- no entry, default `*`, and the keyword doesn't stand: the empty list
+    pub step-closed : entryOf isSemicolon allow n ≡ none → defaultOf n ≡ some star → hasKeyword (text "allow-" ++ nameOf n) ws ≡ false → attributePolicy allow mark (some ws) n ≡ some emptyList
+    unfolding attributePolicy closesPlugins entryElse sandboxCloses hasDefaultStar keywordOf keywordStands pick
+    step-closed e d k = rw (ne-eqb n plugins other, e, d, k)
+
+    -- the keyword stands, or the default isn't `*`: as without a sandbox attribute
+    pub step-keyword : entryOf isSemicolon allow n ≡ none → hasKeyword (text "allow-" ++ nameOf n) ws ≡ true → attributePolicy allow mark (some ws) n ≡ attributePolicy allow mark none n
+    unfolding attributePolicy closesPlugins entryElse sandboxCloses hasDefaultStar keywordOf keywordStands pick
+    step-keyword e k = rw (ne-eqb n plugins other, e) (go (isStar (defaultOf n)))
+      where
+        go : (b : Bool) → pick (b && not (keywordStands (pick (b && not false) (some (text "allow-" ++ nameOf n)) none) ws)) (some emptyList) (allowedFullscreen mark n) ≡ allowedFullscreen mark n
+        go true = rw k
+        go false = refl
+
+    pub step-self : entryOf isSemicolon allow n ≡ none → (defaultOf n ≡ some star → ⊥) → attributePolicy allow mark (some ws) n ≡ attributePolicy allow mark none n
+    unfolding attributePolicy closesPlugins entryElse sandboxCloses hasDefaultStar pick
+    step-self e d = rw (ne-eqb n plugins other, e) (go (defaultOf n) d)
+      where
+        go : (x : Option Default) → (x ≡ some star → ⊥) → pick (isStar x && not (keywordStands (keywordOf n) ws)) (some emptyList) (allowedFullscreen mark n) ≡ allowedFullscreen mark n
+        go (some star) h = absurd (h refl)
+        go (some self) h = refl
+        go none h = refl
+
+-- without one: an entry's list, or `*` for fullscreen with allowfullscreen, as 01 has it
+pub step-absent : (allow : List ℕ) (mark : Bool) (n : ℕ) → attributePolicy allow mark none n ≡ entryElse (allowedFullscreen mark n) (entryOf isSemicolon allow n)
+unfolding attributePolicy closesPlugins sandboxCloses pick
+step-absent allow mark n = refl
 
 -- an empty allow attribute gives no list, as an absent one
 pub empty-policy : (n : ℕ) → attributePolicy [] false none n ≡ none

@@ -1,8 +1,8 @@
--- Document 01's rows about a frame's attributes, and the slips, by computation.
+-- Document 01's and 02's rows about a frame's attributes, and the slips, by computation.
 use Prim.Native.Nat.{ℕ}
 use Prim.Native.String.{String}
 use mathlib.Core.Path.{_≡_, refl}
-use mathlib.Core.List.{List, [], _∷_}
+use mathlib.Core.List.{List, [], _∷_, map}
 use mathlib.Core.Bool.{Bool, true, false, not}
 use mathlib.Core.Option.{Option, some, none}
 use Rattle.ascii.specs.Bytes.{pick}
@@ -15,7 +15,7 @@ use Rattle.origins.specs.NormalForms.{expressionText}
 use Rattle.allowlists.specs.Allowlists.{Allowlist, allows}
 use Rattle.allowlists.specs.Allowlists.Allowlist.{all, listed}
 use Rattle.containers.specs.Attributes.{Attributes}
-use Rattle.containers.specs.Policies.{containerPolicy}
+use Rattle.containers.specs.Policies.{keywordOf, containerPolicy}
 use Rattle.containers.specs.Sandboxes.{isSandboxed, declaredOrigin}
 use Rattle.containers.specs.Computing.{computing}
 
@@ -97,6 +97,73 @@ rows =
 rows-right : every right rows ≡ true
 unfolding computing rows
 rows-right = refl
+
+-- ---- 02, R-1: sandbox as a policy
+
+-- the nine keywords, by feature
+keywords-right : map keywordOf (0 ∷ 1 ∷ 2 ∷ 3 ∷ 4 ∷ 5 ∷ 6 ∷ 7 ∷ 8 ∷ 9 ∷ 10 ∷ 11 ∷ 12 ∷ 13 ∷ 14 ∷ 15 ∷ 16 ∷ 17 ∷ [])
+    ≡ none ∷ none ∷ some (text "allow-downloads-without-user-activation") ∷ some (text "allow-forms") ∷ none ∷ none ∷ none ∷ some (text "allow-modals") ∷ some (text "allow-orientation-lock") ∷ none ∷ none
+    ∷ some (text "allow-pointer-lock") ∷ some (text "allow-popups") ∷ some (text "allow-presentation") ∷ some (text "allow-scripts") ∷ some (text "allow-top-navigation") ∷ none ∷ none ∷ []
+unfolding computing
+keywords-right = refl
+
+-- a frame with an allow attribute, allowfullscreen or without, and a sandbox attribute
+abbrev boxed : String → String → Bool → Attributes
+boxed sandbox allow mark = record { allow = text allow; allowfullscreen = mark; hasSandbox = true; sandbox = text sandbox; src = [] }
+
+-- a sandbox attribute, an allow attribute, whether allowfullscreen stands, a feature, and what they give it, as above
+pub data BoxedRow : Type 0 where
+  absent : String → String → Bool → ℕ → BoxedRow
+  everything : String → String → Bool → ℕ → BoxedRow
+  list : String → String → Bool → ℕ → Bool → Bool → List String → BoxedRow
+
+abbrev boxedRight : BoxedRow → Bool
+boxedRight (absent x s mark n) = isAbsent (containerPolicy (boxed x s mark) n)
+boxedRight (everything x s mark n) = isEverything (containerPolicy (boxed x s mark) n)
+boxedRight (list x s mark n c d ts) = isList c d ts (containerPolicy (boxed x s mark) n)
+
+-- downloads-without-user-activation is 2, plugins 10, scripts 14
+boxedRows : List BoxedRow
+boxedRows =
+    list "" "" false 14 false false []
+    ∷ absent "allow-scripts" "" false 14
+    ∷ absent "x\tALLOW-Scripts\u{c}allow-scripts" "" false 14
+    ∷ list "allow-scripts\u{b}" "" false 14 false false []
+    ∷ list "allow-scripts;" "" false 14 false false []
+    ∷ list "allow-scripts2 allow-script scripts" "" false 14 false false []
+    ∷ list "allow-forms allow-same-origin" "" false 14 false false []
+    ∷ absent "allow-forms allow-same-origin" "" false 3
+    ∷ list "allow-downloads" "" false 2 false false []
+    ∷ absent "allow-downloads-without-user-activation" "" false 2
+    -- an entry decides, beside its keyword and without
+    ∷ list "" "scripts" false 14 false true []
+    ∷ everything "" "scripts *" false 14
+    ∷ list "allow-scripts" "scripts 'none'" false 14 false false []
+    ∷ list "allow-scripts" "scripts https://example.com" false 14 false false ("https://example.com" ∷ [])
+    ∷ list "" "Scripts *" false 14 false false []
+    -- plugins, whatever allow says
+    ∷ list "" "" false 10 false false []
+    ∷ list "allow-plugins" "plugins *" false 10 false false []
+    ∷ list "allow-same-origin" "plugins" false 10 false false []
+    -- features with default self: as without the attribute
+    ∷ absent "" "" false 0
+    ∷ absent "allow-camera" "" false 0
+    ∷ everything "" "camera *" false 0
+    ∷ everything "" "" true 4
+    ∷ list "" "fullscreen" true 4 false true []
+    ∷ absent "" "" false 17
+    ∷ []
+
+boxed-right : every boxedRight boxedRows ≡ true
+unfolding computing boxedRows
+boxed-right = refl
+
+-- with no sandbox attribute its text isn't read
+unread-right : containerPolicy (sandboxing false "allow-forms" "") 14 ≡ none
+unfolding computing
+unread-right = refl
+
+-- ---- sandboxed documents and the declared origin
 
 -- whether the container document is sandboxed, whether a sandbox attribute stands, its text, and whether the frame's document is sandboxed
 pub data Frame : Type 0 where
