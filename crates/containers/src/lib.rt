@@ -19,9 +19,9 @@ use pieces::Bare;
 use pieces::EntryFound;
 
 // The numbers of the features `fullscreen` and `plugins`.
-pub const FULLSCREEN: u32 = 4;
+const FULLSCREEN: u32 = 4;
 
-pub const PLUGINS: u32 = 10;
+const PLUGINS: u32 = 10;
 
 // The longest keyword, in bytes: `allow-` and a name.
 const KEYWORD_BYTES: usize = 6 + features::NAME_BYTES;

@@ -38,7 +38,7 @@ pub use Rattle.origins.proofs.PlainTexts.{expression-plain}
 use Rattle.origins.proofs.Numbers.{number-most}
 use Rattle.origins.proofs.Decimals.{port-canonical, port-short}
 -- numbers in decimal, read up to a limit
-pub use Rattle.origins.proofs.Numbers.{readFrom, read-is, read-end, read-other, read-great, read-more, digit-low, digit-high, long-number}
+pub use Rattle.origins.proofs.Numbers.{readFrom, read-is, read-end, read-other, read-great, read-more, digit-high, long-number}
 pub use Rattle.origins.proofs.ReadBack.{expression-back, good-tuple}
 use Rattle.origins.proofs.ReadBack.{Follows}
 use Rattle.origins.proofs.ReadBack.Follows.{nothing, colon}

@@ -64,11 +64,8 @@ module _ (most n i : ℕ) (ds : List ℕ) (r : Option ℕ) where
     unfolding pick
     read-more g = rw (le-leb (n * 10 + q) most g) at at-digit
 
--- a digit's bounds, by the test that the code makes
+-- a digit's bound, by the test that the code makes
 module _ (x : ℕ) (b : Bool) (u : b ≡ isDigit x) (t : not b ≡ false) where
-  pub digit-low : 48 ≤ x
-  digit-low = within-low 48 57 x (sym u ∙ not-false b t)
-
   pub digit-high : x ≤ 57
   digit-high = within-high 48 57 x (sym u ∙ not-false b t)
 

@@ -146,11 +146,13 @@ enum Digits {
     None,
 }
 
-// The value of a digit.
+// The value of a digit; of a byte before `0`, 0.
 pub fn digit(b: u8) -> u32
-    requires { ⌜ (48 ≤ b) × (b ≤ 57) ⌝ }
     ensures { λ r. ⌜ r ≡ b - 48 ⌝ }
 {
+    if b < 48 {
+        return 0;
+    }
     (b - 48) as u32
 }
 

@@ -6,7 +6,7 @@ use lib.ListN.{length, getD, drop}
 use borrow.Author.Needs.{needs}
 use Rattle.limits.specs.Limits.{lastPort}
 use Rattle.origins.specs.Steps.{portNumber, digitsAs}
-use Rattle.origins.proofs.Numbers.{readFrom, read-end, read-other, read-great, read-more, digit-low, digit-high, number-long, number-empty, number-start}
+use Rattle.origins.proofs.Numbers.{readFrom, read-end, read-other, read-great, read-more, digit-high, number-long, number-empty, number-start}
 use Rattle.origins.proofs.number.Statement.{statement}
 use Rattle.origins.proofs.number.Tie as tie
 
@@ -31,7 +31,7 @@ number-spec =
     let l = c .before .before .before in
     ap digitsAs (read-other _ _ _ _ _ _ (c .before .is-digit .ensures) (c .if3 .taken) (l .loop-test .taken) (l .before .loop .inv .2)))
     (λ c. search needs)
-    (λ c κs. (digit-low _ _ (c .before .is-digit .ensures) (c .if3 .left), digit-high _ _ (c .before .is-digit .ensures) (c .if3 .left)))
+    (λ c κs. search needs)
     (λ c.
     let d = c .before .before in
     let h : getD (d .before .before .before .before .before .before .before .args .d .now) (d .before .before .before .loop .i) 0 ≤ 57 = digit-high _ _ (d .is-digit .ensures) (c .before .if3 .left) in

@@ -3,7 +3,7 @@ use mathlib.Core.Path.{_≡_}
 use Prim.Native.Nat.{_≤_, _-_}
 use lib.ListN.{length, drop}
 use Rattle.replay_lines.specs.Answers.{upto}
-use Rattle.origins.proofs.Laws.{readFrom, read-end, read-other, digit-low, digit-high}
+use Rattle.origins.proofs.Laws.{readFrom, read-end, read-other}
 use Rattle.replay_lines.proofs.Numbers.{upto-empty, upto-start, read-big, read-over, read-next}
 use borrow.Author.Needs.{needs}
 use Rattle.replay_lines.proofs.decimal.Statement.{statement}
@@ -26,7 +26,7 @@ decimal-spec =
     (λ c. search needs)
     (λ c κs. search needs)
     (λ c. search read-other)
-    (λ c κs. (search digit-low, search digit-high))
+    (λ c κs. search needs)
     (λ c. search needs)
     (λ c. search read-big)
     (λ c. search read-over)
