@@ -16,8 +16,9 @@ use Rattle.allowlists.specs.Allowlists.{Allowlist, emptyList, Meaning, i
 use Rattle.allowlists.specs.Allowlists.Allowlist.{all, listed}
 use Rattle.allowlists.specs.Allowlists.Meaning.{star, self, src, source, nothing}
 use Rattle.allowlists.specs.Answers.{admissionAs, admissionIn}
-use Rattle.allowlists.specs.Widening.{Wider, AsWide}
+use Rattle.allowlists.specs.Widening.{Wider, AsWide, AsWideOrOpened}
 use Rattle.allowlists.specs.Widening.AsWide.{neither, both}
+use Rattle.allowlists.specs.Widening.AsWideOrOpened.{as-wide, opened}
 
 -- what a list admits, by its parts
 pub all-admits : (a b : Bool) (o : Origin) → listAdmits all a b o ≡ true
@@ -298,3 +299,14 @@ wider-self l = record { keeps = λ a b o e. e }
 pub as-wide-self : (d : Option Allowlist) → AsWide d d
 as-wide-self (some l) = both (wider-self l)
 as-wide-self none = neither
+
+-- from the empty list to whatever stands, nothing is taken away
+empty-wider : (l : Allowlist) → Wider emptyList l
+empty-wider l = record { keeps = λ a b o e. nobody (listAdmits emptyList a b o) (empty-list a b o) e }
+  where
+    nobody : {b : Bool} (x : Bool) → x ≡ false → x ≡ true → b ≡ true
+    nobody x f e = clash cc
+
+pub from-empty : (d : Option Allowlist) → AsWideOrOpened (some emptyList) d
+from-empty (some l) = as-wide (both (empty-wider l))
+from-empty none = opened

@@ -9,8 +9,12 @@ use Rattle.allowlists.specs.Allowlists.{Allowlist, emptyList, listAdmits
 pub record Wider (l m : Allowlist) : Type 0 where
   pub keeps : (atSelf atSrc : Bool) (o : Origin) → listAdmits l atSelf atSrc o ≡ true → listAdmits m atSelf atSrc o ≡ true
 
--- neither has a list; or both have and the second is as wide; or the first has the empty one, which admits nobody
+-- neither has a list, or both have and the second is as wide
 pub data AsWide : Option Allowlist → Option Allowlist → Type 0 where
   neither : AsWide none none
   both : {l m : Allowlist} → Wider l m → AsWide (some l) (some m)
-  from-empty : {d : Option Allowlist} → AsWide (some emptyList) d
+
+-- the second is as wide; or the first has the empty list, which admits nobody, and the second has none
+pub data AsWideOrOpened : Option Allowlist → Option Allowlist → Type 0 where
+  as-wide : {c d : Option Allowlist} → AsWide c d → AsWideOrOpened c d
+  opened : AsWideOrOpened (some emptyList) none

@@ -1,6 +1,6 @@
 -- The laws of a frame's attributes, for the crates above, which open no definition of this crate. Assumes nothing.
 use mathlib.Core.Path.{_≡_, refl, ap, _∙_, sym}
-use Prim.Native.Nat.{ℕ}
+use Prim.Native.Nat.{ℕ, _≤_, _<_}
 use mathlib.Core.List.{List, [], _∷_, _++_}
 use mathlib.Core.Bool.{Bool, true, false, not, _&&_, _||_}
 use mathlib.Core.Option.{Option, some, none}
@@ -16,21 +16,22 @@ use Rattle.ascii.proofs.Texts.{same-is}
 use Rattle.features.specs.Features.{Default, featureCount, nameOf, defaultOf, featureOf}
 use Rattle.features.specs.Features.Default.{star, self}
 use Rattle.features.specs.Computing.{computing}
-use Rattle.features.proofs.Laws.{unknown, name-none}
+use Rattle.features.proofs.Laws.{found, default-none}
 use Rattle.origins.specs.Origins.{Origin, TupleOrigin, OriginSaid, originOf}
 use Rattle.origins.specs.Origins.Origin.{tuple, fresh}
 use Rattle.origins.specs.Origins.OriginSaid.{saysEmpty, saysNull, saysTuple, noOrigin}
 use Rattle.allowlists.specs.Allowlists.{Allowlist, emptyList}
 use Rattle.allowlists.specs.Allowlists.Meaning.{src}
-use Rattle.allowlists.specs.Widening.{AsWide}
-use Rattle.allowlists.specs.Widening.AsWide.{neither, both, from-empty}
-use Rattle.allowlists.proofs.Laws.{as-wide-self}
+use Rattle.allowlists.specs.Widening.{AsWide, AsWideOrOpened}
+use Rattle.allowlists.specs.Widening.AsWide.{neither, both}
+use Rattle.allowlists.specs.Widening.AsWideOrOpened.{as-wide}
+use Rattle.allowlists.proofs.Laws.{as-wide-self, from-empty}
 use Rattle.pieces.specs.Pieces.{words, hasKeyword, entryOf}
 use Rattle.pieces.specs.Words.{entryList}
 use Rattle.pieces.proofs.Laws.{empty-entry, Grown, entry-grown, word-wider, keyword-more as more-words, keyword-other}
 use Rattle.pieces.proofs.Laws.Grown.{same, grown}
 use Rattle.containers.specs.Attributes.{Attributes}
-use Rattle.containers.specs.Policies.{isSemicolon, fullscreen, plugins, entryElse, allowedFullscreen, isStar, hasDefaultStar, keywordOf, keywordStands, sandboxCloses, closesPlugins, attributePolicy, containerPolicy}
+use Rattle.containers.specs.Policies.{isSemicolon, fullscreen, plugins, entryElse, allowedFullscreen, isStarDefault, hasDefaultStar, keywordOf, keywordStands, sandboxCloses, closesPlugins, attributePolicy, containerPolicy}
 use Rattle.containers.specs.Sandboxes.{sandboxWords, allowSameOrigin, withoutSameOrigin, sandboxes, isSandboxed, srcOrigin, freshIf, declaredOrigin}
 use Rattle.containers.specs.Widening.{WordMore, OneKeywordMore, KeywordMore}
 use Rattle.containers.specs.Widening.WordMore.{word-more}
@@ -70,7 +71,7 @@ module _ (allow : List ℕ) (mark : Bool) (ws : List (List ℕ)) where
     -- the keyword stands, or the default isn't `*`: as without a sandbox attribute
     pub step-keyword : entryOf isSemicolon allow n ≡ none → hasKeyword (text "allow-" ++ nameOf n) ws ≡ true → attributePolicy allow mark (some ws) n ≡ attributePolicy allow mark none n
     unfolding attributePolicy closesPlugins entryElse sandboxCloses hasDefaultStar keywordOf keywordStands pick
-    step-keyword e k = rw (ne-eqb n plugins other, e) (go (isStar (defaultOf n)))
+    step-keyword e k = rw (ne-eqb n plugins other, e) (go (isStarDefault (defaultOf n)))
       where
         go : (b : Bool) → pick (b && not (keywordStands (pick (b && not false) (some (text "allow-" ++ nameOf n)) none) ws)) (some emptyList) (allowedFullscreen mark n) ≡ allowedFullscreen mark n
         go true = rw k
@@ -80,17 +81,17 @@ module _ (allow : List ℕ) (mark : Bool) (ws : List (List ℕ)) where
     unfolding attributePolicy closesPlugins entryElse sandboxCloses hasDefaultStar pick
     step-self e d = rw (ne-eqb n plugins other, e) (go (defaultOf n) d)
       where
-        go : (x : Option Default) → (x ≡ some star → ⊥) → pick (isStar x && not (keywordStands (keywordOf n) ws)) (some emptyList) (allowedFullscreen mark n) ≡ allowedFullscreen mark n
+        go : (x : Option Default) → (x ≡ some star → ⊥) → pick (isStarDefault x && not (keywordStands (keywordOf n) ws)) (some emptyList) (allowedFullscreen mark n) ≡ allowedFullscreen mark n
         go (some star) h = absurd (h refl)
         go (some self) h = refl
         go none h = refl
 
 -- without one: an entry's list, or `*` for fullscreen with allowfullscreen, as 01 has it
-pub step-absent : (allow : List ℕ) (mark : Bool) (n : ℕ) → attributePolicy allow mark none n ≡ entryElse (allowedFullscreen mark n) (entryOf isSemicolon allow n)
-unfolding attributePolicy closesPlugins sandboxCloses pick
-step-absent allow mark n = refl
+pub step-absent : (a : Attributes) → a .hasSandbox ≡ false → (n : ℕ) → containerPolicy a n ≡ entryElse (allowedFullscreen (a .allowfullscreen) n) (entryOf isSemicolon (a .allow) n)
+unfolding containerPolicy attributePolicy sandboxWords closesPlugins sandboxCloses pick
+step-absent a e n = rw e
 
--- an empty allow attribute gives no list, as an absent one
+-- then an empty allow attribute gives no list, as an absent one, where allowfullscreen doesn't stand
 pub empty-policy : (n : ℕ) → attributePolicy [] false none n ≡ none
 unfolding attributePolicy closesPlugins sandboxCloses entryElse allowedFullscreen pick
 empty-policy n = rw (empty-entry isSemicolon n)
@@ -151,7 +152,7 @@ grown-wide other (grown front back w h) = both (word-wider src front back w h)
 
 same-closed : (b : Bool) {d e : Option Allowlist} → AsWide d e → AsWide (pick b (some emptyList) d) (pick b (some emptyList) e)
 unfolding pick
-same-closed true w = from-empty
+same-closed true w = as-wide-self (some emptyList)
 same-closed false w = w
 
 pub word-as-wide : {a b : Attributes} → WordMore a b → (n : ℕ) → AsWide (containerPolicy a n) (containerPolicy b n)
@@ -169,27 +170,28 @@ word-declared (word-more o) above container = refl
 
 -- ---- one keyword more in a sandbox attribute
 
--- `allow-same-origin` is no feature's keyword
-same-origin-name : (n : ℕ) → nameOf n ≡ text "same-origin" → ⊥
-same-origin-name n e = go (ltb n featureCount) refl
+-- a keyword is `allow-` and the name of the feature that it is found by
+pub keyword-found : (n : ℕ) (k : List ℕ) → keywordOf n ≡ some k → featureOf (drop 6 k) ≡ some n
+unfolding keywordOf hasDefaultStar
+keyword-found n k = go (ltb n featureCount) refl (isStarDefault (defaultOf n) && not (eqb n plugins)) refl
   where
-    no-feature : featureOf (text "same-origin") ≡ none
-    no-feature = unfold computing in refl
+    named : n < featureCount → some (text "allow-" ++ nameOf n) ≡ some k → featureOf (drop 6 k) ≡ some n
+    named h e = let q : text "allow-" ++ nameOf n ≡ k = cc in rw (← q) (found n h)
 
-    go : (b : Bool) → ltb n featureCount ≡ b → ⊥
-    go true t = unknown (text "same-origin") n no-feature (omega (arith, ltb-true)) (sym e)
-    go false t = let f : nameOf n ≡ [] = name-none n (omega (arith, ltb-false)) in clash cc
+    no-default : featureCount ≤ n → isStarDefault (defaultOf n) && not (eqb n plugins) ≡ false
+    no-default h = rw (default-none n h)
 
+    go : (a : Bool) → ltb n featureCount ≡ a → (b : Bool) → isStarDefault (defaultOf n) && not (eqb n plugins) ≡ b → pick b (some (text "allow-" ++ nameOf n)) none ≡ some k → featureOf (drop 6 k) ≡ some n
+    go true t true u e = named (omega (arith, ltb-true)) (unfold pick in e)
+    go false t true u e = let f : true ≡ false = sym u ∙ no-default (omega (arith, ltb-false)) in clash cc
+    go a t false u e = clash (unfold pick in cc)
+
+-- `allow-same-origin` is no feature's
 pub same-origin-keyword : (n : ℕ) → keywordOf n ≡ some allowSameOrigin → ⊥
-unfolding keywordOf
-same-origin-keyword n = go (hasDefaultStar n && not (eqb n plugins))
-  where
-    named : some (text "allow-" ++ nameOf n) ≡ some allowSameOrigin → ⊥
-    named e = let q : text "allow-" ++ nameOf n ≡ allowSameOrigin = cc in same-origin-name n (ap (drop 6) q)
-
-    go : (b : Bool) → pick b (some (text "allow-" ++ nameOf n)) none ≡ some allowSameOrigin → ⊥
-    go true e = named (unfold pick in e)
-    go false e = clash (unfold pick in cc)
+same-origin-keyword n e =
+    let f : featureOf (text "same-origin") ≡ some n = keyword-found n allowSameOrigin e in
+    let g : featureOf (text "same-origin") ≡ none = unfold computing in refl in
+    clash cc
 
 module _ {s t : List ℕ} (o : OneKeywordMore s t) where
   -- the added word isn't `allow-same-origin`
@@ -221,22 +223,27 @@ module _ {s t : List ℕ} (o : OneKeywordMore s t) where
       go true true c h e = rw (h refl)
       go true false c h e = clash cc
 
-  less-closed : (mark : Bool) (n : ℕ) → AsWide (pick (sandboxCloses (some (words s)) n) (some emptyList) (allowedFullscreen mark n)) (pick (sandboxCloses (some (words t)) n) (some emptyList) (allowedFullscreen mark n))
+  less-closed : (mark : Bool) (n : ℕ) → AsWideOrOpened (pick (sandboxCloses (some (words s)) n) (some emptyList) (allowedFullscreen mark n)) (pick (sandboxCloses (some (words t)) n) (some emptyList) (allowedFullscreen mark n))
   less-closed mark n = go (sandboxCloses (some (words s)) n) (sandboxCloses (some (words t)) n) (fewer-closed n)
     where
-      go : (a b : Bool) → (a ≡ false → b ≡ false) → AsWide (pick a (some emptyList) (allowedFullscreen mark n)) (pick b (some emptyList) (allowedFullscreen mark n))
-      go true b h = unfold pick in from-empty
-      go false b h = rw (h refl) (as-wide-self _)
+      go : (a b : Bool) → (a ≡ false → b ≡ false) → AsWideOrOpened (pick a (some emptyList) (allowedFullscreen mark n)) (pick b (some emptyList) (allowedFullscreen mark n))
+      go true b h = unfold pick in (from-empty _)
+      go false b h = rw (h refl) (as-wide (as-wide-self _))
 
-else-wide : (e : Option (List (List ℕ))) {c d : Option Allowlist} → AsWide c d → AsWide (entryElse c e) (entryElse d e)
+else-opened : (e : Option (List (List ℕ))) {c d : Option Allowlist} → AsWideOrOpened c d → AsWideOrOpened (entryElse c e) (entryElse d e)
 unfolding entryElse
-else-wide (some ws) w = as-wide-self (some (entryList src ws))
-else-wide none w = w
+else-opened (some ws) w = as-wide (as-wide-self (some (entryList src ws)))
+else-opened none w = w
 
--- no list admits less: a feature that the keyword opens had the empty list
-pub keyword-as-wide : {a b : Attributes} → KeywordMore a b → (n : ℕ) → AsWide (containerPolicy a n) (containerPolicy b n)
+plugins-opened : (b : Bool) {c d : Option Allowlist} → AsWideOrOpened c d → AsWideOrOpened (pick b (some emptyList) c) (pick b (some emptyList) d)
+unfolding pick
+plugins-opened true w = as-wide (as-wide-self (some emptyList))
+plugins-opened false w = w
+
+-- no list admits less, and the feature that the keyword opens had the empty one
+pub keyword-opens : {a b : Attributes} → KeywordMore a b → (n : ℕ) → AsWideOrOpened (containerPolicy a n) (containerPolicy b n)
 unfolding containerPolicy attributePolicy sandboxWords closesPlugins pick
-keyword-as-wide (keyword-more {allow = allow} {fullscreen = mark} o) n = same-closed (eqb n plugins) (else-wide (entryOf isSemicolon allow n) (less-closed o mark n))
+keyword-opens (keyword-more {allow = allow} {fullscreen = mark} o) n = plugins-opened (eqb n plugins) (else-opened (entryOf isSemicolon allow n) (less-closed o mark n))
 
 -- and the document is sandboxed in both or in neither, with the same declared origin
 pub keyword-sandboxed : {a b : Attributes} → KeywordMore a b → (above : Bool) → isSandboxed above a ≡ isSandboxed above b

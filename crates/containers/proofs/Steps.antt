@@ -46,22 +46,22 @@ use Rattle.pieces.proofs.Laws.{entry-same, range-same}
 use Rattle.containers.specs.Attributes.{Attributes}
 use Rattle.containers.specs.Policies.{isSemicolon, fullscreen, plugins, entryElse, allowedFullscreen, hasDefaultStar, keywordOf, keywordStands, sandboxCloses, closesPlugins, attributePolicy}
 use Rattle.containers.specs.Sandboxes.{sandboxWords, allowSameOrigin, withoutSameOrigin, isSandboxed, srcOrigin, freshIf, declaredOrigin}
-use Rattle.containers.specs.Answers.{policyIn, unnamedAs, policyAs, featureAs, policyAt, IsKeyword, IsPolicies, IsSandboxed, declaredIn, declaredAs, IsDeclared}
-use Rattle.containers.specs.declared.Keyword.{Keyword}
+use Rattle.containers.specs.Answers.{policyIn, unnamedAs, policyAs, featureAs, policyAt, IsAllowName, IsPolicies, IsSandboxed, declaredIn, declaredAs, IsDeclared}
+use Rattle.containers.specs.declared.AllowName.{AllowName}
 use Rattle.containers.specs.declared.ContainerPolicy.{ContainerPolicy}
 use Rattle.containers.specs.declared.ContainerPolicy.the-variants as policy
 use Rattle.containers.specs.declared.DeclaredOrigin.{DeclaredOrigin}
 use Rattle.containers.specs.declared.DeclaredOrigin.the-variants as declared
 
--- a keyword copied byte by byte: `allow-` stands in front
+-- a name copied byte by byte: `allow-` stands in front
 abbrev pub blank : List ℕ
 blank = text "allow-                                 "
 
-pub keyword-next : (n : ℕ) (name : Name) (b : List ℕ) (i v : ℕ) → IsName n name → i < name .len → b ≡ paste blank 6 (name .bytes) i → v ≡ getD (name .bytes) i 0 → set b (6 + i) v ≡ paste blank 6 (name .bytes) (i + 1)
-keyword-next n name b i v is h e k = rw (e, k, add-one i) (paste-suc blank 6 (name .bytes) i 0 (omega (arith, is .within)) (omega (arith, is .within, is .room)))
+pub name-next : (n : ℕ) (name : Name) (b : List ℕ) (i v : ℕ) → IsName n name → i < name .len → b ≡ paste blank 6 (name .bytes) i → v ≡ getD (name .bytes) i 0 → set b (6 + i) v ≡ paste blank 6 (name .bytes) (i + 1)
+name-next n name b i v is h e k = rw (e, k, add-one i) (paste-suc blank 6 (name .bytes) i 0 (omega (arith, is .within)) (omega (arith, is .within, is .room)))
 
-pub keyword-is : (n : ℕ) (name : Name) (b : List ℕ) (i : ℕ) → IsName n name → i ≤ name .len → name .len ≤ i → b ≡ paste blank 6 (name .bytes) i → IsKeyword n (record { bytes = b; len = 6 + i })
-keyword-is n name b i is h k f =
+pub name-is : (n : ℕ) (name : Name) (b : List ℕ) (i : ℕ) → IsName n name → i ≤ name .len → name .len ≤ i → b ≡ paste blank 6 (name .bytes) i → IsAllowName n (record { bytes = b; len = 6 + i })
+name-is n name b i is h k f =
     let e : i ≡ name .len = omega arith in
     let le : i ≤ length (name .bytes) = omega (arith, is .within, is .room) in
     record {
@@ -95,7 +95,7 @@ module _ (stands : Bool) (s : List ℕ) (n : ℕ) where
   unfolding sandboxCloses keywordOf keywordStands pick
   closes-plugins d t e k q = present t true (rw (star-default d e k, eq-eqb n plugins q))
 
-  pub closes-keyword : (d : DefaultOf) (w : Keyword) (r : Bool) → not stands ≡ false → defaultIn d ≡ defaultOf n → d ≡ default.All → (n ≡ plugins → ⊥) → IsKeyword n w → r ≡ hasKeyword (take (w .len) (w .bytes)) (words s) → not r ≡ sandboxCloses (sandboxWords stands s) n
+  pub closes-keyword : (d : DefaultOf) (w : AllowName) (r : Bool) → not stands ≡ false → defaultIn d ≡ defaultOf n → d ≡ default.All → (n ≡ plugins → ⊥) → IsAllowName n w → r ≡ hasKeyword (take (w .len) (w .bytes)) (words s) → not r ≡ sandboxCloses (sandboxWords stands s) n
   unfolding sandboxCloses keywordOf keywordStands pick
   closes-keyword d w r t e k q is h = present t (not r) (rw (star-default d e k, ne-eqb n plugins q, h, is .is))
 

@@ -24,7 +24,7 @@ use Rattle.pieces.specs.declared.EntryFound.the-variants as entry
 use Rattle.containers.specs.Attributes.{Attributes}
 use Rattle.containers.specs.Policies.{isSemicolon, fullscreen, sandboxCloses, closesPlugins, attributePolicy}
 use Rattle.containers.specs.Sandboxes.{sandboxWords, withoutSameOrigin, isSandboxed, declaredOrigin}
-use Rattle.containers.specs.declared.Keyword.{Keyword}
+use Rattle.containers.specs.declared.AllowName.{AllowName}
 use Rattle.containers.specs.declared.ContainerPolicy.{ContainerPolicy}
 use Rattle.containers.specs.declared.ContainerPolicy.the-variants as policy
 use Rattle.containers.specs.declared.DeclaredOrigin.{DeclaredOrigin}
@@ -53,8 +53,8 @@ featureAs mark sandbox n e = pick (closesPlugins sandbox n) policy.Empty (policy
 unfoldable pub policyAt : List ℕ → Bool → Option (List (List ℕ)) → ℕ → ContainerPolicy
 policyAt s mark sandbox n = featureAs mark sandbox n (entryAt isSemicolon s n)
 
--- a keyword as the code holds it: its first bytes are `allow-` and the name of a feature
-pub record IsKeyword (n : ℕ) (r : Keyword) : Type 0 where
+-- `allow-` and the name of a feature, as the code holds it
+pub record IsAllowName (n : ℕ) (r : AllowName) : Type 0 where
   pub is : take (r .len) (r .bytes) ≡ text "allow-" ++ nameOf n
   pub within : r .len ≤ length (r .bytes)
 

@@ -26,11 +26,15 @@ allowing allow mark = record { allow = text allow; allowfullscreen = mark; hasSa
 abbrev sandboxing : Bool → String → String → Attributes
 sandboxing stands sandbox src = record { allow = []; allowfullscreen = false; hasSandbox = stands; sandbox = text sandbox; src = text src }
 
--- an allow attribute, whether allowfullscreen stands, a feature, and what they give it: no list, `*`, or a list with the container's origin or without, the declared origin or without, and the texts of its expressions
+-- one with an allow attribute, allowfullscreen or without, and a sandbox attribute
+abbrev boxed : String → String → Bool → Attributes
+boxed sandbox allow mark = record { allow = text allow; allowfullscreen = mark; hasSandbox = true; sandbox = text sandbox; src = [] }
+
+-- a frame, a feature, and what the frame's attributes give it: no list, `*`, or a list with the container's origin or without, the declared origin or without, and the texts of its expressions
 pub data Row : Type 0 where
-  absent : String → Bool → ℕ → Row
-  everything : String → Bool → ℕ → Row
-  list : String → Bool → ℕ → Bool → Bool → List String → Row
+  absent : Attributes → ℕ → Row
+  everything : Attributes → ℕ → Row
+  list : Attributes → ℕ → Bool → Bool → List String → Row
 
 abbrev sameTexts : List SourceExpression → List String → Bool
 sameTexts [] [] = true
@@ -57,41 +61,43 @@ isList c d ts (some (listed a b es)) = pick (sameBool c a) (pick (sameBool d b) 
 isList c d ts none = false
 
 abbrev right : Row → Bool
-right (absent s mark n) = isAbsent (containerPolicy (allowing s mark) n)
-right (everything s mark n) = isEverything (containerPolicy (allowing s mark) n)
-right (list s mark n c d ts) = isList c d ts (containerPolicy (allowing s mark) n)
+right (absent a n) = isAbsent (containerPolicy a n)
+right (everything a n) = isEverything (containerPolicy a n)
+right (list a n c d ts) = isList c d ts (containerPolicy a n)
 
--- camera is 0, forms 3, fullscreen 4, usb 16
+-- camera is 0, forms 3, fullscreen 4, plugins 10, usb 16
 rows : List Row
 rows =
-    absent "" false 0
-    ∷ list "camera" false 0 false true []
-    ∷ list "camera; camera 'none'" false 0 false false []
-    ∷ list "camera 'none'; camera" false 0 false true []
-    ∷ everything "camera *" false 0
-    ∷ everything "camera *; Camera; usb 'self'" false 0
-    ∷ list "camera *; Camera; usb 'self'" false 16 true false []
-    ∷ everything "" true 4
-    ∷ list "fullscreen 'none'" true 4 false false []
-    ∷ list "fullscreen" true 4 false true []
-    ∷ everything "Fullscreen 'none'" true 4
-    ∷ absent "" true 0
-    ∷ absent "" false 4
-    ∷ absent "camera\u{b}usb" false 0
-    ∷ list "camera 'self'\u{b}" false 0 false false []
-    ∷ list "\tcamera\n\u{c}\r'self' 'src'" false 0 true true []
-    ∷ absent "Camera" false 0
-    ∷ absent "camera,usb" false 0
-    ∷ absent "camera,usb" false 16
-    ∷ absent "* camera" false 0
-    ∷ absent ";;" false 0
-    ∷ list "camera 'SELF'" false 0 true false []
-    ∷ list "camera 'None'" false 0 false false []
-    ∷ list "camera self 'sel' http://" false 0 false false []
-    ∷ list "forms" false 3 false true []
-    ∷ list "camera https://B.example:443 'Src' junk http:" false 0 false true ("https://b.example:443" ∷ "http:" ∷ [])
-    ∷ everything "camera 'none' * https://b.example" false 0
-    ∷ absent "camera *" false 17
+    absent (allowing "" false) 0
+    ∷ list (allowing "camera" false) 0 false true []
+    ∷ list (allowing "camera; camera 'none'" false) 0 false false []
+    ∷ list (allowing "camera 'none'; camera" false) 0 false true []
+    ∷ everything (allowing "camera *" false) 0
+    ∷ everything (allowing "camera *; Camera; usb 'self'" false) 0
+    ∷ list (allowing "camera *; Camera; usb 'self'" false) 16 true false []
+    ∷ everything (allowing "" true) 4
+    ∷ list (allowing "fullscreen 'none'" true) 4 false false []
+    ∷ list (allowing "fullscreen" true) 4 false true []
+    ∷ everything (allowing "Fullscreen 'none'" true) 4
+    ∷ absent (allowing "" true) 0
+    ∷ absent (allowing "" false) 4
+    ∷ absent (allowing "camera\u{b}usb" false) 0
+    ∷ list (allowing "camera 'self'\u{b}" false) 0 false false []
+    ∷ list (allowing "\tcamera\n\u{c}\r'self' 'src'" false) 0 true true []
+    ∷ absent (allowing "Camera" false) 0
+    ∷ absent (allowing "camera,usb" false) 0
+    ∷ absent (allowing "camera,usb" false) 16
+    ∷ absent (allowing "* camera" false) 0
+    ∷ absent (allowing ";;" false) 0
+    ∷ list (allowing "camera 'SELF'" false) 0 true false []
+    ∷ list (allowing "camera 'None'" false) 0 false false []
+    ∷ list (allowing "camera self 'sel' http://" false) 0 false false []
+    ∷ list (allowing "forms" false) 3 false true []
+    ∷ list (allowing "camera https://B.example:443 'Src' junk http:" false) 0 false true ("https://b.example:443" ∷ "http:" ∷ [])
+    ∷ everything (allowing "camera 'none' * https://b.example" false) 0
+    ∷ absent (allowing "camera *" false) 17
+    ∷ list (allowing "plugins" false) 10 false true []
+    ∷ everything (allowing "plugins *" false) 10
     ∷ []
 
 rows-right : every right rows ≡ true
@@ -107,59 +113,46 @@ keywords-right : map keywordOf (0 ∷ 1 ∷ 2 ∷ 3 ∷ 4 ∷ 5 ∷ 6 ∷ 7 ∷ 
 unfolding computing
 keywords-right = refl
 
--- a frame with an allow attribute, allowfullscreen or without, and a sandbox attribute
-abbrev boxed : String → String → Bool → Attributes
-boxed sandbox allow mark = record { allow = text allow; allowfullscreen = mark; hasSandbox = true; sandbox = text sandbox; src = [] }
-
--- a sandbox attribute, an allow attribute, whether allowfullscreen stands, a feature, and what they give it, as above
-pub data BoxedRow : Type 0 where
-  absent : String → String → Bool → ℕ → BoxedRow
-  everything : String → String → Bool → ℕ → BoxedRow
-  list : String → String → Bool → ℕ → Bool → Bool → List String → BoxedRow
-
-abbrev boxedRight : BoxedRow → Bool
-boxedRight (absent x s mark n) = isAbsent (containerPolicy (boxed x s mark) n)
-boxedRight (everything x s mark n) = isEverything (containerPolicy (boxed x s mark) n)
-boxedRight (list x s mark n c d ts) = isList c d ts (containerPolicy (boxed x s mark) n)
-
--- downloads-without-user-activation is 2, plugins 10, scripts 14
-boxedRows : List BoxedRow
+-- forms is 3, plugins 10, popups 12, scripts 14, downloads-without-user-activation 2
+boxedRows : List Row
 boxedRows =
-    list "" "" false 14 false false []
-    ∷ absent "allow-scripts" "" false 14
-    ∷ absent "x\tALLOW-Scripts\u{c}allow-scripts" "" false 14
-    ∷ list "allow-scripts\u{b}" "" false 14 false false []
-    ∷ list "allow-scripts;" "" false 14 false false []
-    ∷ list "allow-scripts2 allow-script scripts" "" false 14 false false []
-    ∷ list "allow-forms allow-same-origin" "" false 14 false false []
-    ∷ absent "allow-forms allow-same-origin" "" false 3
-    ∷ list "allow-downloads" "" false 2 false false []
-    ∷ absent "allow-downloads-without-user-activation" "" false 2
+    list (boxed "" "" false) 14 false false []
+    ∷ absent (boxed "allow-scripts" "" false) 14
+    ∷ absent (boxed "x\tALLOW-Scripts\u{c}allow-scripts" "" false) 14
+    ∷ list (boxed "allow-scripts\u{b}" "" false) 14 false false []
+    ∷ list (boxed "allow-scripts;" "" false) 14 false false []
+    ∷ list (boxed "allow-scripts2 allow-script scripts" "" false) 14 false false []
+    ∷ list (boxed "allow-forms allow-same-origin" "" false) 14 false false []
+    ∷ absent (boxed "allow-forms allow-same-origin" "" false) 3
+    ∷ list (boxed "allow-popups-to-escape-sandbox" "" false) 12 false false []
+    ∷ list (boxed "allow-downloads" "" false) 2 false false []
+    ∷ absent (boxed "allow-downloads-without-user-activation" "" false) 2
     -- an entry decides, beside its keyword and without
-    ∷ list "" "scripts" false 14 false true []
-    ∷ everything "" "scripts *" false 14
-    ∷ list "allow-scripts" "scripts 'none'" false 14 false false []
-    ∷ list "allow-scripts" "scripts https://example.com" false 14 false false ("https://example.com" ∷ [])
-    ∷ list "" "Scripts *" false 14 false false []
+    ∷ list (boxed "" "scripts" false) 14 false true []
+    ∷ everything (boxed "" "scripts *" false) 14
+    ∷ list (boxed "allow-scripts" "scripts" false) 14 false true []
+    ∷ list (boxed "allow-scripts" "scripts 'none'" false) 14 false false []
+    ∷ list (boxed "allow-scripts" "scripts https://example.com" false) 14 false false ("https://example.com" ∷ [])
+    ∷ list (boxed "" "Scripts *" false) 14 false false []
     -- plugins, whatever allow says
-    ∷ list "" "" false 10 false false []
-    ∷ list "allow-plugins" "plugins *" false 10 false false []
-    ∷ list "allow-same-origin" "plugins" false 10 false false []
+    ∷ list (boxed "" "" false) 10 false false []
+    ∷ list (boxed "allow-plugins" "plugins *" false) 10 false false []
+    ∷ list (boxed "allow-same-origin" "plugins" false) 10 false false []
     -- features with default self: as without the attribute
-    ∷ absent "" "" false 0
-    ∷ absent "allow-camera" "" false 0
-    ∷ everything "" "camera *" false 0
-    ∷ everything "" "" true 4
-    ∷ list "" "fullscreen" true 4 false true []
-    ∷ absent "" "" false 17
+    ∷ absent (boxed "" "" false) 0
+    ∷ absent (boxed "allow-camera" "" false) 0
+    ∷ everything (boxed "" "camera *" false) 0
+    ∷ everything (boxed "" "" true) 4
+    ∷ list (boxed "" "fullscreen" true) 4 false true []
+    ∷ absent (boxed "" "" false) 17
     ∷ []
 
-boxed-right : every boxedRight boxedRows ≡ true
+boxed-right : every right boxedRows ≡ true
 unfolding computing boxedRows
 boxed-right = refl
 
 -- with no sandbox attribute its text isn't read
-unread-right : containerPolicy (sandboxing false "allow-forms" "") 14 ≡ none
+unread-right : every right (absent (sandboxing false "allow-forms" "") 14 ∷ absent (sandboxing false "allow-forms" "") 10 ∷ []) ≡ true
 unfolding computing
 unread-right = refl
 

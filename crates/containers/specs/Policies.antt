@@ -38,14 +38,14 @@ allowedFullscreen mark n = pick (mark && eqb n fullscreen) (some all) none
 
 -- ---- 02, R-1: "Sandbox as a policy". A frame's own sandbox attribute: none, or its words
 
-abbrev pub isStar : Option Default → Bool
-isStar (some star) = true
-isStar (some self) = false
-isStar none = false
+abbrev pub isStarDefault : Option Default → Bool
+isStarDefault (some star) = true
+isStarDefault (some self) = false
+isStarDefault none = false
 
 -- one of "01's ten features with default *"
 unfoldable pub hasDefaultStar : ℕ → Bool
-hasDefaultStar n = isStar (defaultOf n)
+hasDefaultStar n = isStarDefault (defaultOf n)
 
 -- "its keyword ... (`allow-` and the feature's name, case ignored; plugins has none)"; only the ten are spoken of
 unfoldable pub keywordOf : ℕ → Option (List ℕ)

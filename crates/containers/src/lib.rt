@@ -7,7 +7,7 @@ ghost use Rattle.allowlists.specs.Allowlists.{someAdmits};
 ghost use Rattle.allowlists.specs.Answers.{admissionAs};
 ghost use Rattle.containers.specs.Policies.{fullscreen, sandboxCloses};
 ghost use Rattle.containers.specs.Sandboxes.{sandboxWords};
-ghost use Rattle.containers.specs.Answers.{policyIn, unnamedAs, featureAs, IsKeyword, IsPolicies, IsSandboxed, IsDeclared};
+ghost use Rattle.containers.specs.Answers.{policyIn, unnamedAs, featureAs, IsAllowName, IsPolicies, IsSandboxed, IsDeclared};
 use allowlists::Admission;
 use ascii::Class;
 use ascii::TextRange;
@@ -24,7 +24,7 @@ const FULLSCREEN: u32 = 4;
 const PLUGINS: u32 = 10;
 
 // The longest keyword, in bytes: `allow-` and a name.
-const KEYWORD_BYTES: usize = 6 + features::NAME_BYTES;
+const ALLOW_NAME_BYTES: usize = 6 + features::NAME_BYTES;
 
 // What a frame's attributes give a feature: no list, `*`, the empty list (of the sandbox attribute), or the list of an entry, as a range of the allow attribute.
 pub enum ContainerPolicy {
@@ -42,15 +42,15 @@ pub enum DeclaredOrigin {
     NotAnOrigin,
 }
 
-// A sandbox keyword: the first `len` of `bytes`.
-struct Keyword {
-    bytes: [u8; KEYWORD_BYTES],
+// `allow-` and a name: the first `len` of `bytes`.
+struct AllowName {
+    bytes: [u8; ALLOW_NAME_BYTES],
     len: usize,
 }
 
-// `allow-` and the name of a feature.
-fn keyword_of(n: u32) -> Keyword
-    ensures { λ r. ⌜ IsKeyword n r ⌝ }
+// `allow-` and the name of a feature: its keyword, if it has one.
+fn allow_name(n: u32) -> AllowName
+    ensures { λ r. ⌜ IsAllowName n r ⌝ }
 {
     let name = features::name_of(n);
     let letters = name.bytes;
@@ -61,7 +61,7 @@ fn keyword_of(n: u32) -> Keyword
         bytes[6 + i] = letters[i];
         i += 1;
     }
-    Keyword { bytes, len: 6 + i }
+    AllowName { bytes, len: 6 + i }
 }
 
 // Whether a sandbox attribute closes a feature that allow doesn't name: one with default `*` whose keyword doesn't stand; plugins has none.
@@ -76,7 +76,7 @@ fn sandbox_closes(has_sandbox: bool, sandbox: &[u8], n: u32) -> bool
             if n == PLUGINS {
                 return true;
             }
-            let k = keyword_of(n);
+            let k = allow_name(n);
             let bytes = k.bytes;
             let len = k.len;
             !pieces::has_keyword(sandbox, &bytes[..len])

@@ -22,8 +22,9 @@ use Rattle.origins.proofs.Laws.{tuple-self, opaque-self, fresh-left, fresh-righ
 use Rattle.allowlists.specs.Allowlists.{Allowlist, emptyList, listAdmits, allows, someAdmits}
 use Rattle.allowlists.specs.Allowlists.Allowlist.{all, listed}
 use Rattle.allowlists.specs.Answers.{admissionAs, admissionIn}
-use Rattle.allowlists.specs.Widening.{AsWide}
-use Rattle.allowlists.specs.Widening.AsWide.{neither, both, from-empty}
+use Rattle.allowlists.specs.Widening.{AsWide, AsWideOrOpened}
+use Rattle.allowlists.specs.Widening.AsWide.{neither, both}
+use Rattle.allowlists.specs.Widening.AsWideOrOpened.{as-wide, opened}
 use Rattle.allowlists.specs.declared.Admission.{Admission}
 use Rattle.allowlists.proofs.Laws.{all-admits, empty-list, some-admits, none-admits, admission-back, fresh-all, opaque-all, allows-fresh, allows-opaque, as-wide-self}
 use Rattle.declarations.specs.Declarations.{declaredAdmits}
@@ -242,11 +243,11 @@ unless-keeps enabled d e f h g k = rw (h refl) (g k)
 unless-stays : {c d e f : Decision} → Stays c d → Stays e f → Stays (unlessDisabled c e) (unlessDisabled d f)
 unless-stays {c} {d} {e} {f} h g = record { keeps = unless-keeps c d e f (λ k. h .keeps k) (λ k. g .keeps k) }
 
--- two answers of lists: neither has one; or both have and the second admits if the first does; or the first has one that doesn't admit
+-- two answers of lists: neither has one; or both have and the second admits if the first does; or the first has one, which doesn't admit, and the second none
 data Follows : Option Bool → Option Bool → Type 0 where
   no-lists : Follows none none
   lists : {a b : Bool} → (a ≡ true → b ≡ true) → Follows (some a) (some b)
-  from-not : {b : Option Bool} → Follows (some false) b
+  list-gone : Follows (some false) none
 
 decided-keeps : (a b : Bool) → (a ≡ true → b ≡ true) → decided a ≡ enabled → decided b ≡ enabled
 unfolding decided
@@ -261,12 +262,15 @@ list-stays : {a b : Option Bool} (d : Decision) → Follows a b → Stays (byLis
 unfolding byList
 list-stays d no-lists = stays-self d
 list-stays d (lists {a} {b} h) = record { keeps = decided-keeps a b h }
-list-stays d from-not = record { keeps = λ k. not-decided k }
+list-stays d list-gone = record { keeps = λ k. not-decided k }
 
 wide-follows : {a b : Option Allowlist} (x y : Bool) (o : Origin) → AsWide a b → Follows (someAdmits a x y o) (someAdmits b x y o)
 wide-follows x y o neither = rw (none-admits x y o) no-lists
 wide-follows x y o (both {l} {m} w) = rw (some-admits l x y o, some-admits m x y o) (lists (λ e. w .keeps x y o e))
-wide-follows x y o from-empty = rw (some-admits emptyList x y o, empty-list x y o) from-not
+
+opened-follows : {a b : Option Allowlist} (x y : Bool) (o : Origin) → AsWideOrOpened a b → Follows (someAdmits a x y o) (someAdmits b x y o)
+opened-follows x y o (as-wide w) = wide-follows x y o w
+opened-follows x y o opened = rw (some-admits emptyList x y o, none-admits x y o, empty-list x y o) list-gone
 
 declared-follows : {a b : Option Allowlist} (own o : Origin) → AsWide a b → Follows (declaredAdmits a own o) (declaredAdmits b own o)
 declared-follows {a} {b} own o wide = rw (← (declared-told a (sameOrigin own o) own o refl), ← (declared-told b (sameOrigin own o) own o refl)) (wide-follows (sameOrigin own o) false o wide)
@@ -281,19 +285,19 @@ pub question-stays : {i j : Decision} {a b : Option Allowlist} (default : Option
 unfolding question questionBy
 question-stays default own o h more = unless-stays h (list-stays (byDefault default (sameOrigin own o)) (declared-follows own o more))
 
--- *Inherited* is monotone in the container's values and in the attribute's list
-pub inherited-stays : {c d e f : Decision} {a b : Option Allowlist} (default : Option Default) (container declared arriving : Origin) → Stays c d → Stays e f → AsWide a b
+-- *Inherited* is monotone in the container's values and in the container policy's list
+pub inherited-stays : {c d e f : Decision} {a b : Option Allowlist} (default : Option Default) (container declared arriving : Origin) → Stays c d → Stays e f → AsWideOrOpened a b
     → Stays (inheritedFramed c e a default container declared arriving) (inheritedFramed d f b default container declared arriving)
 unfolding inheritedFramed inheritedBy
 inherited-stays default container declared arriving h g more =
-    unless-stays h (unless-stays g (list-stays (byDefault default (sameOrigin container arriving)) (wide-follows (sameOrigin container arriving) (sameOrigin declared arriving) arriving more)))
+    unless-stays h (unless-stays g (list-stays (byDefault default (sameOrigin container arriving)) (opened-follows (sameOrigin container arriving) (sameOrigin declared arriving) arriving more)))
 
 -- what is the same is as wide
 pub wider-self : (p : Policy) → WiderPolicy p p
 wider-self p = record { own = refl; inherits = λ n. stays-self (p .inherited n); declares = λ n. as-wide-self (p .declared n) }
 
 pub frame-self : (f : Frame) → WiderFrame f f
-frame-self f = record { declared = refl; allows = λ n. as-wide-self (f .allowed n) }
+frame-self f = record { declared = refl; allows = λ n. as-wide (as-wide-self (f .allowed n)) }
 
 -- the same of a document: a wider policy keeps what is Enabled
 module _ (p q : Policy) (wide : WiderPolicy p q) where

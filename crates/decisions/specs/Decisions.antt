@@ -39,7 +39,7 @@ abbrev pub inheritedTop : Decision
 inheritedTop = enabled
 
 -- "Framed: Disabled unless the container's value is Enabled for the container's own origin and for the arriving origin; then, if the attribute has the feature, by its list;
--- else Enabled for default *; else Enabled only for the container's own origin."
+-- else Enabled for default *; else Enabled only for the container's own origin." Since 02's R-1 "the attribute has the feature" is: the container policy has a list for it
 unfoldable pub inheritedBy : Decision → Decision → Option Bool → Option Default → Bool → Decision
 inheritedBy valueOwn valueArriving allowed default same =
     unlessDisabled valueOwn (unlessDisabled valueArriving (byList allowed (byDefault default same)))

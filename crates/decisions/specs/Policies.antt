@@ -13,7 +13,7 @@ use Rattle.decisions.specs.Masks.{maskOf}
 unfoldable pub value : Decision → Option Allowlist → Origin → Origin → Decision
 value inherited declared own o = valueBy inherited (declaredAdmits declared own o)
 
--- *Inherited*, framed: the container's values for its own and for the arriving origin, the list that the attribute has for the feature, the feature's default, and the container's, the declared and the arriving origin
+-- *Inherited*, framed: the container's values for its own and for the arriving origin, the list that the container policy has for the feature, the feature's default, and the container's, the declared and the arriving origin
 unfoldable pub inheritedFramed : Decision → Decision → Option Allowlist → Option Default → Origin → Origin → Origin → Decision
 inheritedFramed valueOwn valueArriving allowed default container declared arriving =
     inheritedBy valueOwn valueArriving (someAdmits allowed (sameOrigin container arriving) (sameOrigin declared arriving) arriving) default (sameOrigin container arriving)

@@ -1,7 +1,7 @@
 -- Demand 3: when what is Enabled stays Enabled.
 use Prim.Native.Nat.{ℕ}
 use mathlib.Core.Path.{_≡_}
-use Rattle.allowlists.specs.Widening.{AsWide}
+use Rattle.allowlists.specs.Widening.{AsWide, AsWideOrOpened}
 use Rattle.decisions.specs.Decisions.{Decision}
 use Rattle.decisions.specs.Decisions.Decision.{enabled}
 use Rattle.decisions.specs.Policies.{Policy, Frame}
@@ -16,7 +16,7 @@ pub record WiderPolicy (p q : Policy) : Type 0 where
   pub inherits : (n : ℕ) → Stays (p .inherited n) (q .inherited n)
   pub declares : (n : ℕ) → AsWide (p .declared n) (q .declared n)
 
--- two frames with one declared origin, the second at least as wide
+-- two frames with one declared origin, the second at least as wide: no list admits less, and where one is gone it was empty
 pub record WiderFrame (f g : Frame) : Type 0 where
   pub declared : f .declared ≡ g .declared
-  pub allows : (n : ℕ) → AsWide (f .allowed n) (g .allowed n)
+  pub allows : (n : ℕ) → AsWideOrOpened (f .allowed n) (g .allowed n)

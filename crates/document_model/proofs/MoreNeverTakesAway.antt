@@ -16,8 +16,9 @@ use Rattle.features.specs.Features.{featureCount}
 use Rattle.origins.specs.Origins.{Origin, OriginSaid, originOf}
 use Rattle.dictionaries.specs.OneItemMore.{OneItemMore}
 use Rattle.allowlists.specs.Allowlists.{Allowlist}
-use Rattle.allowlists.specs.Widening.{AsWide}
+use Rattle.allowlists.specs.Widening.{AsWide, AsWideOrOpened}
 use Rattle.allowlists.specs.Widening.AsWide.{neither}
+use Rattle.allowlists.specs.Widening.AsWideOrOpened.{as-wide}
 use Rattle.allowlists.proofs.Laws.{as-wide-self}
 use Rattle.declarations.specs.Declarations.{declares, isMalformed}
 use Rattle.declarations.proofs.Laws.{item-as-wide, item-good}
@@ -26,7 +27,7 @@ use Rattle.containers.specs.Sandboxes.{isSandboxed, declaredOrigin}
 use Rattle.containers.specs.Widening.{WordMore, KeywordMore}
 use Rattle.containers.specs.Widening.WordMore.{word-more}
 use Rattle.containers.specs.Widening.KeywordMore.{keyword-more}
-use Rattle.containers.proofs.Laws.{word-as-wide, word-sandboxed, word-declared, keyword-as-wide, keyword-sandboxed, keyword-declared}
+use Rattle.containers.proofs.Laws.{word-as-wide, word-sandboxed, word-declared, keyword-opens, keyword-sandboxed, keyword-declared}
 use Rattle.decisions.specs.Masks.{decisionAt}
 use Rattle.decisions.specs.Policies.{questionIn, inheritedIn, enabledMask, forecast}
 use Rattle.decisions.specs.Widening as widening
@@ -46,7 +47,7 @@ pub record HeaderMore (h g : Text) : Type 0 where
   pub declares-more : (n : ℕ) → AsWide (declares h n) (declares g n)
 
 pub record AttributesMore (a b : Attributes) : Type 0 where
-  pub allows-more : (n : ℕ) → AsWide (containerPolicy a n) (containerPolicy b n)
+  pub allows-more : (n : ℕ) → AsWideOrOpened (containerPolicy a n) (containerPolicy b n)
   pub same-src : a .src ≡ b .src
   pub same-sandboxed : (above : Bool) → isSandboxed above a ≡ isSandboxed above b
   pub same-declared : (above : Bool) (container : Origin) → declaredOrigin above a container ≡ declaredOrigin above b container
@@ -69,7 +70,7 @@ header-self : (h : Text) → HeaderMore h h
 header-self h = record { same-form = refl; declares-more = λ n. as-wide-self (declares h n) }
 
 attributes-self : (a : Attributes) → AttributesMore a a
-attributes-self a = record { allows-more = λ n. as-wide-self (containerPolicy a n); same-src = refl; same-sandboxed = λ above. refl; same-declared = λ above container. refl }
+attributes-self a = record { allows-more = λ n. as-wide (as-wide-self (containerPolicy a n)); same-src = refl; same-sandboxed = λ above. refl; same-declared = λ above container. refl }
 
 shape-self : (c : Call) → ShapeMore c c
 shape-self (topLoad h o) = top-more (header-self h)
@@ -90,13 +91,13 @@ word-src : {a b : Attributes} → WordMore a b → a .src ≡ b .src
 word-src (word-more w) = refl
 
 word-attributes : {a b : Attributes} → WordMore a b → AttributesMore a b
-word-attributes w = record { allows-more = word-as-wide w; same-src = word-src w; same-sandboxed = word-sandboxed w; same-declared = word-declared w }
+word-attributes w = record { allows-more = λ n. as-wide (word-as-wide w n); same-src = word-src w; same-sandboxed = word-sandboxed w; same-declared = word-declared w }
 
 keyword-src : {a b : Attributes} → KeywordMore a b → a .src ≡ b .src
 keyword-src (keyword-more k) = refl
 
 keyword-attributes : {a b : Attributes} → KeywordMore a b → AttributesMore a b
-keyword-attributes k = record { allows-more = keyword-as-wide k; same-src = keyword-src k; same-sandboxed = keyword-sandboxed k; same-declared = keyword-declared k }
+keyword-attributes k = record { allows-more = keyword-opens k; same-src = keyword-src k; same-sandboxed = keyword-sandboxed k; same-declared = keyword-declared k }
 
 pub one-more-shape : {c d : Call} → OneMore c d → ShapeMore c d
 one-more-shape (item-top {h = h} {g = g} i) = top-more (item-header h g i)

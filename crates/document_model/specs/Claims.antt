@@ -1,4 +1,4 @@
--- Demand 3 and document 01's sentences on the table: seven claims about every list of calls on a new table, refused calls included, whoever answers them. `proofs/Claims` proves them of the model.
+-- Demand 3, with what 02's R-1 adds to it, and document 01's sentences on the table: seven claims about every list of calls on a new table, refused calls included, whoever answers them. `proofs/Claims` proves them of the model.
 use mathlib.Core.Path.{_≡_}
 use Prim.Native.Nat.{ℕ, _+_, _<_, _≤_}
 use mathlib.Core.Bool.{Bool, true, false}

@@ -72,14 +72,14 @@ placeFrom n word (name ∷ rest) = pick (sameBytes word name) (some n) (placeFro
 unfoldable pub featureOf : List ℕ → Option ℕ
 featureOf word = placeFrom 0 word names
 
--- the order of texts, byte by byte; a text stands precedes each longer one that it begins
+-- the order of texts, byte by byte; a text precedes each longer one that it begins
 unfoldable pub precedes : List ℕ → List ℕ → Bool
 precedes [] [] = false
 precedes [] (y ∷ ys) = true
 precedes (x ∷ xs) [] = false
 precedes (x ∷ xs) (y ∷ ys) = pick (eqb x y) (precedes xs ys) (ltb x y)
 
--- each stands precedes all that follow it
+-- each precedes all that follow it
 unfoldable pub ascending : List (List ℕ) → Bool
 ascending [] = true
 ascending (x ∷ xs) = every (precedes x) xs && ascending xs

@@ -111,6 +111,18 @@ fn main() {
         &long[..1024],
     );
     foretell(b"its forecast", three, false, &long[..1024]);
+    foretell(
+        b"mark clear, `allow-forms` not read: its forecast",
+        three,
+        false,
+        b"allow-forms",
+    );
+    foretell(
+        b"mark set, `allow-forms`: its forecast",
+        three,
+        true,
+        b"allow-forms",
+    );
     let four = frame(b"mark set, sandbox text of 1,025 bytes", three, true, &long);
     let five = frame(
         b"mark set, sandbox text of 1,024 bytes",
@@ -124,6 +136,7 @@ fn main() {
         false,
         b"allow-same-origin",
     );
+    tell_features(b"its features", documents::enabled_features(six, 3));
     let mut short = [7u32; 1];
     list(b"a listing of two in one place", six, &mut short);
     let mut enough = [7u32; 2];
