@@ -1,5 +1,5 @@
 -- The claims applied to runs: their premises hold of something. Assumes nothing.
-use Rattle.document_model.specs.Examples.{camera, allowing, sandboxing, loads, between, fewerItems, moreItems, item-added, fewerWords, moreWords, word-added, grandchild, framed, top, family, fewerKeywords, moreKeywords, keyword-added, boxedFrame, within, boxedFamily, sameOriginRun}
+use Rattle.document_model.specs.Examples.{camera, allowing, boxed, loads, between, fewerItems, moreItems, item-added, fewerWords, moreWords, word-added, grandchild, framed, top, family, fewerKeywords, moreKeywords, keyword-added, boxedFrame, within, boxedFamily, sameOriginRun}
 use mathlib.Core.Path.{_≡_, refl, sym, subst}
 use Prim.Native.Nat.{ℕ, _<_}
 use native.Mathlib.Omega.{arith}
@@ -12,10 +12,11 @@ use Rattle.containers.specs.Attributes.{Attributes}
 use Rattle.containers.specs.Widening.WordMore.{word-more}
 use Rattle.containers.specs.Widening.KeywordMore.{keyword-more}
 use Rattle.decisions.specs.Decisions.Decision.{disabled, enabled}
-use Rattle.document_model.specs.Runs.{Each, no-more, each}
+use Rattle.document_model.specs.Runs.{Each}
 use Rattle.document_model.specs.Model.{Text, isGoodOrigin, Call, topLoad, framedLoad, unload, question, enabledFeatures, forecastOf, Answer, refused, loaded, removed, decision, features, answers, answerAfter}
 use Rattle.document_model.specs.History.{Event, history, Happened, last, earlier, gave-framed, Framed, framed-by, Unloaded, unloaded, BeneathIn, directly, through, LoadedIn, now, still}
-use Rattle.document_model.specs.Claims.{item-top, word-framed, keyword-framed, isAccepted, Keeps, enabled-stays, as-src, as-null}
+use Rattle.document_model.specs.Answering.{answerAt}
+use Rattle.document_model.specs.Claims.{item-top, word-framed, keyword-framed, keyword-forecast, isAccepted, Keeps, enabled-stays, as-src, as-null}
 use Rattle.document_model.specs.Computing.{computing}
 use Rattle.document_model.proofs.Claims.{disabled-flows-down, more-never-takes-away, forecast-comes-true}
 
@@ -130,16 +131,25 @@ boxed-accepted-more = refl
 keyword-kept : Each Keeps (answers (boxedFamily fewerKeywords)) (answers (boxedFamily moreKeywords))
 keyword-kept = more-never-takes-away (top [] ∷ []) (boxedFrame fewerKeywords) (boxedFrame moreKeywords) within (keyword-framed (keyword-more keyword-added)) boxed-accepted boxed-accepted-more
 
--- the claim would be false of `allow-same-origin`: the last answer is Enabled without it, and Disabled with it
-last-kept : {a b c d x a′ b′ c′ d′ x′ : Answer} → Each Keeps (a ∷ b ∷ c ∷ d ∷ x ∷ []) (a′ ∷ b′ ∷ c′ ∷ d′ ∷ x′ ∷ []) → Keeps x x′
-last-kept (each p (each q (each r (each s (each k no-more))))) = k
+-- and in a forecast
+forecast-accepted : isAccepted (answerAfter (top [] ∷ []) (forecastOf 1 (boxed fewerKeywords ""))) ≡ true
+unfolding computing
+forecast-accepted = refl
 
+forecast-accepted-more : isAccepted (answerAfter (top [] ∷ []) (forecastOf 1 (boxed moreKeywords ""))) ≡ true
+unfolding computing
+forecast-accepted-more = refl
+
+forecast-kept : Each Keeps (answers (top [] ∷ forecastOf 1 (boxed fewerKeywords "") ∷ [])) (answers (top [] ∷ forecastOf 1 (boxed moreKeywords "") ∷ []))
+forecast-kept = more-never-takes-away (top [] ∷ []) (forecastOf 1 (boxed fewerKeywords "")) (forecastOf 1 (boxed moreKeywords "")) [] (keyword-forecast (keyword-more keyword-added)) forecast-accepted forecast-accepted-more
+
+-- the claim would be false of `allow-same-origin`: a question on serial 3 is Enabled without it, and Disabled with it
 taken : Keeps (decision enabled) (decision disabled) → ⊥
 taken (enabled-stays s) = let e : disabled ≡ enabled = s .keeps refl in clash cc
 
-same-origin-takes-away : Each Keeps (answers (sameOriginRun "")) (answers (sameOriginRun "allow-same-origin")) → ⊥
+same-origin-takes-away : Keeps (answerAt 4 (answers (sameOriginRun ""))) (answerAt 4 (answers (sameOriginRun "allow-same-origin"))) → ⊥
 unfolding computing
-same-origin-takes-away k = taken (last-kept k)
+same-origin-takes-away k = taken k
 
 -- ---- 4
 
@@ -155,17 +165,17 @@ came-true : answerAfter (top [] ∷ forecastOf 1 (allowing "camera") ∷ framed 
 came-true = forecast-comes-true .comes-true (top [] ∷ []) 1 (text "https://b.example") (allowing "camera") 64909 2 false forecast-said as-src arrived
 
 -- and with `null` in a sandboxed frame
-sandboxed-said : answerAfter (top [] ∷ []) (forecastOf 1 (sandboxing "camera *")) ≡ features 1
+sandboxed-said : answerAfter (top [] ∷ []) (forecastOf 1 (boxed "" "camera *")) ≡ features 1
 unfolding computing
 sandboxed-said = refl
 
-src-refused : answerAfter (top [] ∷ []) (framedLoad 1 [] (text "https://b.example") (sandboxing "camera *")) ≡ refused 5
+src-refused : answerAfter (top [] ∷ []) (framedLoad 1 [] (text "https://b.example") (boxed "" "camera *")) ≡ refused 5
 unfolding computing
 src-refused = refl
 
-null-arrived : answerAfter (top [] ∷ forecastOf 1 (sandboxing "camera *") ∷ []) (framedLoad 1 [] nullText (sandboxing "camera *")) ≡ loaded 2 false
+null-arrived : answerAfter (top [] ∷ forecastOf 1 (boxed "" "camera *") ∷ []) (framedLoad 1 [] nullText (boxed "" "camera *")) ≡ loaded 2 false
 unfolding computing
 null-arrived = refl
 
-null-came-true : answerAfter (top [] ∷ forecastOf 1 (sandboxing "camera *") ∷ framedLoad 1 [] nullText (sandboxing "camera *") ∷ []) (enabledFeatures 2) ≡ features 1
-null-came-true = forecast-comes-true .comes-true (top [] ∷ []) 1 nullText (sandboxing "camera *") 1 2 false sandboxed-said (as-null src-refused) null-arrived
+null-came-true : answerAfter (top [] ∷ forecastOf 1 (boxed "" "camera *") ∷ framedLoad 1 [] nullText (boxed "" "camera *") ∷ []) (enabledFeatures 2) ≡ features 1
+null-came-true = forecast-comes-true .comes-true (top [] ∷ []) 1 nullText (boxed "" "camera *") 1 2 false sandboxed-said (as-null src-refused) null-arrived
