@@ -13,7 +13,7 @@ pub data Allowlist : Type 0 where
   all : Allowlist
   listed : Bool → Bool → List SourceExpression → Allowlist
 
--- the list that has nothing
+-- the empty list, which admits nobody
 abbrev pub emptyList : Allowlist
 emptyList = listed false false []
 

@@ -3,17 +3,14 @@ use Prim.Native.Nat.{ℕ}
 use Prim.Native.String.{String}
 use mathlib.Core.Path.{_≡_, refl}
 use mathlib.Core.List.{List, [], _∷_, map}
-use mathlib.Core.Bool.{Bool, true, false, not}
+use mathlib.Core.Bool.{Bool, true, false}
 use mathlib.Core.Option.{Option, some, none}
-use Rattle.ascii.specs.Bytes.{pick}
 use Rattle.ascii.specs.Literals.{text}
-use Rattle.ascii.specs.Texts.{every, sameBytes}
+use Rattle.ascii.specs.Texts.{every}
 use Rattle.origins.specs.Origins.{Origin}
 use Rattle.origins.specs.Origins.Origin.{fresh}
-use Rattle.origins.specs.Expressions.{SourceExpression}
-use Rattle.origins.specs.NormalForms.{expressionText}
 use Rattle.allowlists.specs.Allowlists.{Allowlist, allows}
-use Rattle.allowlists.specs.Allowlists.Allowlist.{all, listed}
+use Rattle.allowlists.specs.Rows.{sameBool, isAbsent, isEverything, isList}
 use Rattle.containers.specs.Attributes.{Attributes}
 use Rattle.containers.specs.Policies.{keywordOf, containerPolicy}
 use Rattle.containers.specs.Sandboxes.{isSandboxed, declaredOrigin}
@@ -27,38 +24,14 @@ abbrev sandboxing : Bool → String → String → Attributes
 sandboxing stands sandbox src = record { allow = []; allowfullscreen = false; hasSandbox = stands; sandbox = text sandbox; src = text src }
 
 -- one with an allow attribute, allowfullscreen or without, and a sandbox attribute
-abbrev boxed : String → String → Bool → Attributes
-boxed sandbox allow mark = record { allow = text allow; allowfullscreen = mark; hasSandbox = true; sandbox = text sandbox; src = [] }
+abbrev withSandbox : String → String → Bool → Attributes
+withSandbox sandbox allow mark = record { allow = text allow; allowfullscreen = mark; hasSandbox = true; sandbox = text sandbox; src = [] }
 
 -- a frame, a feature, and what the frame's attributes give it: no list, `*`, or a list with the container's origin or without, the declared origin or without, and the texts of its expressions
 pub data Row : Type 0 where
   absent : Attributes → ℕ → Row
   everything : Attributes → ℕ → Row
   list : Attributes → ℕ → Bool → Bool → List String → Row
-
-abbrev sameTexts : List SourceExpression → List String → Bool
-sameTexts [] [] = true
-sameTexts [] (t ∷ ts) = false
-sameTexts (e ∷ es) [] = false
-sameTexts (e ∷ es) (t ∷ ts) = pick (sameBytes (expressionText e) (text t)) (sameTexts es ts) false
-
-abbrev sameBool : Bool → Bool → Bool
-sameBool true b = b
-sameBool false b = not b
-
-abbrev isAbsent : Option Allowlist → Bool
-isAbsent (some l) = false
-isAbsent none = true
-
-abbrev isEverything : Option Allowlist → Bool
-isEverything (some all) = true
-isEverything (some (listed a b es)) = false
-isEverything none = false
-
-abbrev isList : Bool → Bool → List String → Option Allowlist → Bool
-isList c d ts (some all) = false
-isList c d ts (some (listed a b es)) = pick (sameBool c a) (pick (sameBool d b) (sameTexts es ts) false) false
-isList c d ts none = false
 
 abbrev right : Row → Bool
 right (absent a n) = isAbsent (containerPolicy a n)
@@ -114,42 +87,42 @@ unfolding computing
 keywords-right = refl
 
 -- forms is 3, plugins 10, popups 12, scripts 14, downloads-without-user-activation 2
-boxedRows : List Row
-boxedRows =
-    list (boxed "" "" false) 14 false false []
-    ∷ absent (boxed "allow-scripts" "" false) 14
-    ∷ absent (boxed "x\tALLOW-Scripts\u{c}allow-scripts" "" false) 14
-    ∷ list (boxed "allow-scripts\u{b}" "" false) 14 false false []
-    ∷ list (boxed "allow-scripts;" "" false) 14 false false []
-    ∷ list (boxed "allow-scripts2 allow-script scripts" "" false) 14 false false []
-    ∷ list (boxed "allow-forms allow-same-origin" "" false) 14 false false []
-    ∷ absent (boxed "allow-forms allow-same-origin" "" false) 3
-    ∷ list (boxed "allow-popups-to-escape-sandbox" "" false) 12 false false []
-    ∷ list (boxed "allow-downloads" "" false) 2 false false []
-    ∷ absent (boxed "allow-downloads-without-user-activation" "" false) 2
+sandboxRows : List Row
+sandboxRows =
+    list (withSandbox "" "" false) 14 false false []
+    ∷ absent (withSandbox "allow-scripts" "" false) 14
+    ∷ absent (withSandbox "x\tALLOW-Scripts\u{c}allow-scripts" "" false) 14
+    ∷ list (withSandbox "allow-scripts\u{b}" "" false) 14 false false []
+    ∷ list (withSandbox "allow-scripts;" "" false) 14 false false []
+    ∷ list (withSandbox "allow-scripts2 allow-script scripts" "" false) 14 false false []
+    ∷ list (withSandbox "allow-forms allow-same-origin" "" false) 14 false false []
+    ∷ absent (withSandbox "allow-forms allow-same-origin" "" false) 3
+    ∷ list (withSandbox "allow-popups-to-escape-sandbox" "" false) 12 false false []
+    ∷ list (withSandbox "allow-downloads" "" false) 2 false false []
+    ∷ absent (withSandbox "allow-downloads-without-user-activation" "" false) 2
     -- an entry decides, beside its keyword and without
-    ∷ list (boxed "" "scripts" false) 14 false true []
-    ∷ everything (boxed "" "scripts *" false) 14
-    ∷ list (boxed "allow-scripts" "scripts" false) 14 false true []
-    ∷ list (boxed "allow-scripts" "scripts 'none'" false) 14 false false []
-    ∷ list (boxed "allow-scripts" "scripts https://example.com" false) 14 false false ("https://example.com" ∷ [])
-    ∷ list (boxed "" "Scripts *" false) 14 false false []
+    ∷ list (withSandbox "" "scripts" false) 14 false true []
+    ∷ everything (withSandbox "" "scripts *" false) 14
+    ∷ list (withSandbox "allow-scripts" "scripts" false) 14 false true []
+    ∷ list (withSandbox "allow-scripts" "scripts 'none'" false) 14 false false []
+    ∷ list (withSandbox "allow-scripts" "scripts https://example.com" false) 14 false false ("https://example.com" ∷ [])
+    ∷ list (withSandbox "" "Scripts *" false) 14 false false []
     -- plugins, whatever allow says
-    ∷ list (boxed "" "" false) 10 false false []
-    ∷ list (boxed "allow-plugins" "plugins *" false) 10 false false []
-    ∷ list (boxed "allow-same-origin" "plugins" false) 10 false false []
+    ∷ list (withSandbox "" "" false) 10 false false []
+    ∷ list (withSandbox "allow-plugins" "plugins *" false) 10 false false []
+    ∷ list (withSandbox "allow-same-origin" "plugins" false) 10 false false []
     -- features with default self: as without the attribute
-    ∷ absent (boxed "" "" false) 0
-    ∷ absent (boxed "allow-camera" "" false) 0
-    ∷ everything (boxed "" "camera *" false) 0
-    ∷ everything (boxed "" "" true) 4
-    ∷ list (boxed "" "fullscreen" true) 4 false true []
-    ∷ absent (boxed "" "" false) 17
+    ∷ absent (withSandbox "" "" false) 0
+    ∷ absent (withSandbox "allow-camera" "" false) 0
+    ∷ everything (withSandbox "" "camera *" false) 0
+    ∷ everything (withSandbox "" "" true) 4
+    ∷ list (withSandbox "" "fullscreen" true) 4 false true []
+    ∷ absent (withSandbox "" "" false) 17
     ∷ []
 
-boxed-right : every right boxedRows ≡ true
-unfolding computing boxedRows
-boxed-right = refl
+sandbox-rows-right : every right sandboxRows ≡ true
+unfolding computing sandboxRows
+sandbox-rows-right = refl
 
 -- with no sandbox attribute its text isn't read
 unread-right : every right (absent (sandboxing false "allow-forms" "") 14 ∷ absent (sandboxing false "allow-forms" "") 10 ∷ []) ≡ true

@@ -56,7 +56,7 @@ unfoldable pub keywordStands : Option (List ℕ) → List (List ℕ) → Bool
 keywordStands (some k) ws = hasKeyword k ws
 keywordStands none ws = false
 
--- "With sandbox present, each of 01's ten features with default * gets an empty list unless its keyword stands"
+-- "With sandbox present, each of 01's ten features with default * gets an empty list unless its keyword stands". To close a feature, our word, is to give it the empty list
 unfoldable pub sandboxCloses : Option (List (List ℕ)) → ℕ → Bool
 sandboxCloses none n = false
 sandboxCloses (some ws) n = hasDefaultStar n && not (keywordStands (keywordOf n) ws)

@@ -2,15 +2,11 @@
 use Prim.Native.String.{String}
 use mathlib.Core.Path.{_≡_, refl}
 use mathlib.Core.List.{List, [], _∷_}
-use mathlib.Core.Bool.{Bool, true, false, not}
-use mathlib.Core.Option.{Option, some, none}
+use mathlib.Core.Bool.{Bool, true, false}
 use Rattle.ascii.specs.Bytes.{pick}
 use Rattle.ascii.specs.Literals.{text}
-use Rattle.ascii.specs.Texts.{every, sameBytes}
-use Rattle.origins.specs.Expressions.{SourceExpression}
-use Rattle.origins.specs.NormalForms.{expressionText}
-use Rattle.allowlists.specs.Allowlists.{Allowlist}
-use Rattle.allowlists.specs.Allowlists.Allowlist.{all, listed}
+use Rattle.ascii.specs.Texts.{every}
+use Rattle.allowlists.specs.Rows.{isAbsent, isEverything, isList}
 use Rattle.declarations.specs.Declarations.{declares, isMalformed}
 use Rattle.declarations.specs.Computing.{computing}
 
@@ -21,36 +17,11 @@ pub data Row : Type 0 where
   list : String → Bool → List String → Row
   malformed : String → Row
 
-abbrev sameTexts : List SourceExpression → List String → Bool
-sameTexts [] [] = true
-sameTexts [] (t ∷ ts) = false
-sameTexts (e ∷ es) [] = false
-sameTexts (e ∷ es) (t ∷ ts) = pick (sameBytes (expressionText e) (text t)) (sameTexts es ts) false
-
-abbrev sameBool : Bool → Bool → Bool
-sameBool true b = b
-sameBool false b = not b
-
-abbrev isUndeclared : Option Allowlist → Bool
-isUndeclared (some l) = false
-isUndeclared none = true
-
-abbrev isEverything : Option Allowlist → Bool
-isEverything (some all) = true
-isEverything (some (listed own src es)) = false
-isEverything none = false
-
-abbrev isList : Bool → List String → Option Allowlist → Bool
-isList own ts (some all) = false
-isList own ts (some (listed b true es)) = false
-isList own ts (some (listed b false es)) = pick (sameBool own b) (sameTexts es ts) false
-isList own ts none = false
-
 abbrev right : Row → Bool
-right (undeclared s) = pick (isMalformed (text s)) false (isUndeclared (declares (text s) 0))
+right (undeclared s) = pick (isMalformed (text s)) false (isAbsent (declares (text s) 0))
 right (everything s) = isEverything (declares (text s) 0)
-right (list s own ts) = isList own ts (declares (text s) 0)
-right (malformed s) = pick (isMalformed (text s)) (isUndeclared (declares (text s) 0)) false
+right (list s own ts) = isList own false ts (declares (text s) 0)
+right (malformed s) = pick (isMalformed (text s)) (isAbsent (declares (text s) 0)) false
 
 rows : List Row
 rows =

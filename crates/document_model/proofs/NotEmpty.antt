@@ -1,5 +1,5 @@
 -- The claims applied to runs: their premises hold of something. Assumes nothing.
-use Rattle.document_model.specs.Examples.{camera, allowing, boxed, loads, between, fewerItems, moreItems, item-added, fewerWords, moreWords, word-added, grandchild, framed, top, family, fewerKeywords, moreKeywords, keyword-added, boxedFrame, within, boxedFamily, sameOriginRun}
+use Rattle.document_model.specs.Examples.{camera, allowing, withSandbox, loads, between, fewerItems, moreItems, item-added, fewerWords, moreWords, word-added, grandchild, framed, top, family, fewerKeywords, moreKeywords, keyword-added, sandboxFrame, within, sandboxFamily, sameOriginRun}
 use mathlib.Core.Path.{_≡_, refl, sym, subst}
 use Prim.Native.Nat.{ℕ, _<_}
 use native.Mathlib.Omega.{arith}
@@ -120,28 +120,28 @@ framed-accepted-more = refl
 word-kept : Each Keeps (answers (family [] fewerWords)) (answers (family [] moreWords))
 word-kept = more-never-takes-away (top [] ∷ []) (framed fewerWords) (framed moreWords) grandchild (word-framed (word-more word-added)) framed-accepted framed-accepted-more
 
-boxed-accepted : isAccepted (answerAfter (top [] ∷ []) (boxedFrame fewerKeywords)) ≡ true
+sandbox-accepted : isAccepted (answerAfter (top [] ∷ []) (sandboxFrame fewerKeywords)) ≡ true
 unfolding computing
-boxed-accepted = refl
+sandbox-accepted = refl
 
-boxed-accepted-more : isAccepted (answerAfter (top [] ∷ []) (boxedFrame moreKeywords)) ≡ true
+sandbox-accepted-more : isAccepted (answerAfter (top [] ∷ []) (sandboxFrame moreKeywords)) ≡ true
 unfolding computing
-boxed-accepted-more = refl
+sandbox-accepted-more = refl
 
-keyword-kept : Each Keeps (answers (boxedFamily fewerKeywords)) (answers (boxedFamily moreKeywords))
-keyword-kept = more-never-takes-away (top [] ∷ []) (boxedFrame fewerKeywords) (boxedFrame moreKeywords) within (keyword-framed (keyword-more keyword-added)) boxed-accepted boxed-accepted-more
+keyword-kept : Each Keeps (answers (sandboxFamily fewerKeywords)) (answers (sandboxFamily moreKeywords))
+keyword-kept = more-never-takes-away (top [] ∷ []) (sandboxFrame fewerKeywords) (sandboxFrame moreKeywords) within (keyword-framed (keyword-more keyword-added)) sandbox-accepted sandbox-accepted-more
 
 -- and in a forecast
-forecast-accepted : isAccepted (answerAfter (top [] ∷ []) (forecastOf 1 (boxed fewerKeywords ""))) ≡ true
+forecast-accepted : isAccepted (answerAfter (top [] ∷ []) (forecastOf 1 (withSandbox fewerKeywords ""))) ≡ true
 unfolding computing
 forecast-accepted = refl
 
-forecast-accepted-more : isAccepted (answerAfter (top [] ∷ []) (forecastOf 1 (boxed moreKeywords ""))) ≡ true
+forecast-accepted-more : isAccepted (answerAfter (top [] ∷ []) (forecastOf 1 (withSandbox moreKeywords ""))) ≡ true
 unfolding computing
 forecast-accepted-more = refl
 
-forecast-kept : Each Keeps (answers (top [] ∷ forecastOf 1 (boxed fewerKeywords "") ∷ [])) (answers (top [] ∷ forecastOf 1 (boxed moreKeywords "") ∷ []))
-forecast-kept = more-never-takes-away (top [] ∷ []) (forecastOf 1 (boxed fewerKeywords "")) (forecastOf 1 (boxed moreKeywords "")) [] (keyword-forecast (keyword-more keyword-added)) forecast-accepted forecast-accepted-more
+forecast-kept : Each Keeps (answers (top [] ∷ forecastOf 1 (withSandbox fewerKeywords "") ∷ [])) (answers (top [] ∷ forecastOf 1 (withSandbox moreKeywords "") ∷ []))
+forecast-kept = more-never-takes-away (top [] ∷ []) (forecastOf 1 (withSandbox fewerKeywords "")) (forecastOf 1 (withSandbox moreKeywords "")) [] (keyword-forecast (keyword-more keyword-added)) forecast-accepted forecast-accepted-more
 
 -- the claim would be false of `allow-same-origin`: a question on serial 3 is Enabled without it, and Disabled with it
 taken : Keeps (decision enabled) (decision disabled) → ⊥
@@ -165,17 +165,17 @@ came-true : answerAfter (top [] ∷ forecastOf 1 (allowing "camera") ∷ framed 
 came-true = forecast-comes-true .comes-true (top [] ∷ []) 1 (text "https://b.example") (allowing "camera") 64909 2 false forecast-said as-src arrived
 
 -- and with `null` in a sandboxed frame
-sandboxed-said : answerAfter (top [] ∷ []) (forecastOf 1 (boxed "" "camera *")) ≡ features 1
+sandboxed-said : answerAfter (top [] ∷ []) (forecastOf 1 (withSandbox "" "camera *")) ≡ features 1
 unfolding computing
 sandboxed-said = refl
 
-src-refused : answerAfter (top [] ∷ []) (framedLoad 1 [] (text "https://b.example") (boxed "" "camera *")) ≡ refused 5
+src-refused : answerAfter (top [] ∷ []) (framedLoad 1 [] (text "https://b.example") (withSandbox "" "camera *")) ≡ refused 5
 unfolding computing
 src-refused = refl
 
-null-arrived : answerAfter (top [] ∷ forecastOf 1 (boxed "" "camera *") ∷ []) (framedLoad 1 [] nullText (boxed "" "camera *")) ≡ loaded 2 false
+null-arrived : answerAfter (top [] ∷ forecastOf 1 (withSandbox "" "camera *") ∷ []) (framedLoad 1 [] nullText (withSandbox "" "camera *")) ≡ loaded 2 false
 unfolding computing
 null-arrived = refl
 
-null-came-true : answerAfter (top [] ∷ forecastOf 1 (boxed "" "camera *") ∷ framedLoad 1 [] nullText (boxed "" "camera *") ∷ []) (enabledFeatures 2) ≡ features 1
-null-came-true = forecast-comes-true .comes-true (top [] ∷ []) 1 nullText (boxed "" "camera *") 1 2 false sandboxed-said (as-null src-refused) null-arrived
+null-came-true : answerAfter (top [] ∷ forecastOf 1 (withSandbox "" "camera *") ∷ framedLoad 1 [] nullText (withSandbox "" "camera *") ∷ []) (enabledFeatures 2) ≡ features 1
+null-came-true = forecast-comes-true .comes-true (top [] ∷ []) 1 nullText (withSandbox "" "camera *") 1 2 false sandboxed-said (as-null src-refused) null-arrived

@@ -25,8 +25,8 @@ abbrev pub allowing : String → Attributes
 allowing allow = record { allow = text allow; allowfullscreen = false; hasSandbox = false; sandbox = []; src = text "https://b.example" }
 
 -- the same with a sandbox attribute
-abbrev pub boxed : String → String → Attributes
-boxed sandbox allow = record { allow = text allow; allowfullscreen = false; hasSandbox = true; sandbox = text sandbox; src = text "https://b.example" }
+abbrev pub withSandbox : String → String → Attributes
+withSandbox sandbox allow = record { allow = text allow; allowfullscreen = false; hasSandbox = true; sandbox = text sandbox; src = text "https://b.example" }
 
 -- one with the same src that allows usb everywhere and has allowfullscreen
 abbrev wide : Attributes
@@ -116,18 +116,18 @@ abbrev nine : String
 nine = "allow-downloads-without-user-activation allow-forms allow-modals allow-orientation-lock allow-pointer-lock allow-popups allow-presentation allow-scripts allow-top-navigation"
 
 -- a frame with a sandbox attribute, then one in it and what is asked then
-abbrev pub boxedFrame : String → Call
-boxedFrame sandbox = framedLoad 1 [] (text "null") (boxed sandbox "")
+abbrev pub sandboxFrame : String → Call
+sandboxFrame sandbox = framedLoad 1 [] (text "null") (withSandbox sandbox "")
 
 abbrev pub within : List Call
 within = framedLoad 2 [] (text "null") (allowing "") ∷ question 3 scripts [] ∷ enabledFeatures 3 ∷ forecastOf 2 (allowing "") ∷ []
 
-abbrev pub boxedFamily : String → List Call
-boxedFamily sandbox = top [] ∷ boxedFrame sandbox ∷ within
+abbrev pub sandboxFamily : String → List Call
+sandboxFamily sandbox = top [] ∷ sandboxFrame sandbox ∷ within
 
 -- the load at https://x.example gets 5 or a serial, and so the next load another one
 abbrev pub sameOriginRun : String → List Call
-sameOriginRun sandbox = top [] ∷ boxedFrame sandbox ∷ framedLoad 2 [] (text "https://x.example") (allowing "") ∷ topLoad [] (text "https://c.example") ∷ question 3 camera [] ∷ []
+sameOriginRun sandbox = top [] ∷ sandboxFrame sandbox ∷ framedLoad 2 [] (text "https://x.example") (allowing "") ∷ topLoad [] (text "https://c.example") ∷ question 3 camera [] ∷ []
 
 -- ---- all runs
 
@@ -153,33 +153,33 @@ rows =
       expected = loaded 1 false ∷ features 64909 ∷ loaded 2 false ∷ features 64908 ∷ loaded 3 false ∷ features 64909 ∷ [];
     }
     ∷ record {
-      calls = top [] ∷ forecastOf 1 (boxed "" "camera *") ∷ framedLoad 1 [] (text "null") (boxed "" "camera *") ∷ enabledFeatures 2 ∷ [];
+      calls = top [] ∷ forecastOf 1 (withSandbox "" "camera *") ∷ framedLoad 1 [] (text "null") (withSandbox "" "camera *") ∷ enabledFeatures 2 ∷ [];
       expected = loaded 1 false ∷ features 1 ∷ loaded 2 false ∷ features 1 ∷ [];
     }
     -- 02, R-1: forms alone, worth 8; and scripts too, worth 16,384
-    ∷ record { calls = boxedFamily fewerKeywords; expected = loaded 1 false ∷ loaded 2 false ∷ loaded 3 false ∷ decision disabled ∷ features 8 ∷ features 8 ∷ [] }
-    ∷ record { calls = boxedFamily moreKeywords; expected = loaded 1 false ∷ loaded 2 false ∷ loaded 3 false ∷ decision enabled ∷ features 16392 ∷ features 16392 ∷ [] }
-    ∷ record { calls = top [] ∷ forecastOf 1 (boxed fewerKeywords "") ∷ forecastOf 1 (boxed moreKeywords "") ∷ []; expected = loaded 1 false ∷ features 8 ∷ features 16392 ∷ [] }
+    ∷ record { calls = sandboxFamily fewerKeywords; expected = loaded 1 false ∷ loaded 2 false ∷ loaded 3 false ∷ decision disabled ∷ features 8 ∷ features 8 ∷ [] }
+    ∷ record { calls = sandboxFamily moreKeywords; expected = loaded 1 false ∷ loaded 2 false ∷ loaded 3 false ∷ decision enabled ∷ features 16392 ∷ features 16392 ∷ [] }
+    ∷ record { calls = top [] ∷ forecastOf 1 (withSandbox fewerKeywords "") ∷ forecastOf 1 (withSandbox moreKeywords "") ∷ []; expected = loaded 1 false ∷ features 8 ∷ features 16392 ∷ [] }
     -- all nine keywords: the ten without plugins, worth 1,024; `allow-same-origin` alone opens none of the ten
     ∷ record {
-      calls = top [] ∷ forecastOf 1 (boxed nine "") ∷ boxedFrame nine ∷ enabledFeatures 2 ∷ framedLoad 1 [] (text "https://b.example") (boxed "allow-same-origin" "") ∷ enabledFeatures 3 ∷ [];
+      calls = top [] ∷ forecastOf 1 (withSandbox nine "") ∷ sandboxFrame nine ∷ enabledFeatures 2 ∷ framedLoad 1 [] (text "https://b.example") (withSandbox "allow-same-origin" "") ∷ enabledFeatures 3 ∷ [];
       expected = loaded 1 false ∷ features 63884 ∷ loaded 2 false ∷ features 63884 ∷ loaded 3 false ∷ features 0 ∷ [];
     }
-    -- in a sandboxed document, a frame with a sandbox attribute of its own: forms needs its keyword again, and scripts stays closed
+    -- in a sandboxed document, a frame with a sandbox attribute of its own: forms needs its keyword or an entry again, and scripts stays closed
     ∷ record {
-      calls = top [] ∷ boxedFrame fewerKeywords ∷ forecastOf 2 (boxed "" "") ∷ forecastOf 2 (boxed "allow-forms" "") ∷ forecastOf 2 (boxed "allow-scripts" "") ∷ forecastOf 2 (boxed "allow-same-origin" "forms *; scripts *") ∷ [];
+      calls = top [] ∷ sandboxFrame fewerKeywords ∷ forecastOf 2 (withSandbox "" "") ∷ forecastOf 2 (withSandbox "allow-forms" "") ∷ forecastOf 2 (withSandbox "allow-scripts" "") ∷ forecastOf 2 (withSandbox "allow-same-origin" "forms *; scripts *") ∷ [];
       expected = loaded 1 false ∷ loaded 2 false ∷ features 0 ∷ features 8 ∷ features 0 ∷ features 8 ∷ [];
     }
     ∷ record { calls = sameOriginRun ""; expected = loaded 1 false ∷ loaded 2 false ∷ refused 5 ∷ loaded 3 false ∷ decision enabled ∷ [] }
     ∷ record { calls = sameOriginRun "allow-same-origin"; expected = loaded 1 false ∷ loaded 2 false ∷ loaded 3 false ∷ loaded 4 false ∷ decision disabled ∷ [] }
     -- a bare `scripts` stays Disabled, since the declared origin is fresh, and with `allow-same-origin` it is Enabled; `scripts *` is Enabled, and `plugins *` isn't: worth 16,384 and 1,024
     ∷ record {
-      calls = top [] ∷ framedLoad 1 [] (text "null") (boxed "" "scripts") ∷ question 2 scripts [] ∷ forecastOf 1 (boxed "" "scripts") ∷ framedLoad 1 [] (text "https://b.example") (boxed "allow-same-origin" "scripts") ∷ question 3 scripts [] ∷ forecastOf 1 (boxed "" "scripts *; plugins *") ∷ [];
+      calls = top [] ∷ framedLoad 1 [] (text "null") (withSandbox "" "scripts") ∷ question 2 scripts [] ∷ forecastOf 1 (withSandbox "" "scripts") ∷ framedLoad 1 [] (text "https://b.example") (withSandbox "allow-same-origin" "scripts") ∷ question 3 scripts [] ∷ forecastOf 1 (withSandbox "" "scripts *; plugins *") ∷ [];
       expected = loaded 1 false ∷ loaded 2 false ∷ decision disabled ∷ features 0 ∷ loaded 3 false ∷ decision enabled ∷ features 16384 ∷ [];
     }
     -- a frame without a sandbox attribute in a sandboxed document: no step of its own, but nothing that was Disabled comes back
     ∷ record {
-      calls = top [] ∷ boxedFrame "allow-popups" ∷ framedLoad 2 (text "scripts=*") (text "null") (allowing "scripts *") ∷ enabledFeatures 3 ∷ [];
+      calls = top [] ∷ sandboxFrame "allow-popups" ∷ framedLoad 2 (text "scripts=*") (text "null") (allowing "scripts *") ∷ enabledFeatures 3 ∷ [];
       expected = loaded 1 false ∷ loaded 2 false ∷ loaded 3 false ∷ features 4096 ∷ [];
     }
     -- unloading removes all beneath
@@ -207,7 +207,7 @@ rows =
           ∷ topLoad (long 1024) []
           ∷ framedLoad 9 [] (text "null") (record { allow = []; allowfullscreen = false; hasSandbox = false; sandbox = long 1025; src = text "x" })
           ∷ framedLoad 9 [] (text "null") (record { allow = []; allowfullscreen = false; hasSandbox = false; sandbox = []; src = text "x" })
-          ∷ framedLoad 9 [] (text "https://b.example") (boxed "" "")
+          ∷ framedLoad 9 [] (text "https://b.example") (withSandbox "" "")
           ∷ [];
       expected = refused 3 ∷ refused 2 ∷ refused 1 ∷ refused 4 ∷ refused 3 ∷ refused 4 ∷ refused 3 ∷ refused 1 ∷ [];
     }
@@ -215,8 +215,8 @@ rows =
     ∷ record {
       calls =
           topLoad (text "camera") (text "https://a.example")
-          ∷ framedLoad 1 [] (text "https://b.example") (boxed "" "")
-          ∷ framedLoad 1 (text "camera=(") (text "null") (boxed "" "")
+          ∷ framedLoad 1 [] (text "https://b.example") (withSandbox "" "")
+          ∷ framedLoad 1 (text "camera=(") (text "null") (withSandbox "" "")
           ∷ framedLoad 2 [] [] (allowing "")
           ∷ listing 1 []
           ∷ listing 2 []
