@@ -5,7 +5,7 @@ use mathlib.Core.List.{List, [], _∷_, _++_, map}
 use mathlib.Core.Bool.{Bool, true, false, _&&_, _||_}
 use mathlib.Core.Option.{Option, some, none}
 use Rattle.ascii.specs.Bytes.{pick}
-use Rattle.ascii.proofs.Bytes.{or-false, and-false}
+use Rattle.ascii.proofs.Bytes.{or-false, and-false, or-on, or-more}
 use Rattle.ascii.proofs.Clash.{clash}
 use Rattle.origins.specs.Origins.{Origin}
 use Rattle.origins.specs.Origins.Origin.{opaque, fresh}
@@ -275,14 +275,6 @@ pub allows-opaque : (l : Allowlist) (own declared : Origin) (n : ℕ) → sameOr
 allows-opaque l own declared n h k e = opaque-all l n (rw (h, k) at e)
 
 -- one meaning more admits at least as much
-or-on : (a b : Bool) → b ≡ true → a || b ≡ true
-or-on true b e = refl
-or-on false b e = e
-
-or-more : (a b c : Bool) → (b ≡ true → c ≡ true) → a || b ≡ true → a || c ≡ true
-or-more true b c f e = refl
-or-more false b c f e = f e
-
 meanings-more : (front back : List Meaning) (m : Meaning) (a b : Bool) (o : Origin) → listAdmits (allowlistOf (front ++ back)) a b o ≡ true → listAdmits (allowlistOf (front ++ (m ∷ back))) a b o ≡ true
 meanings-more [] back m a b o e = list-cons m back a b o ∙ or-on (meaningAdmits m a b o) (listAdmits (allowlistOf back) a b o) e
 meanings-more (x ∷ front) back m a b o e =

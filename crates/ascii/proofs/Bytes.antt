@@ -28,6 +28,14 @@ pub or-true : (b : Bool) → b || true ≡ true
 or-true true = refl
 or-true false = refl
 
+pub or-on : (a b : Bool) → b ≡ true → a || b ≡ true
+or-on true b e = refl
+or-on false b e = e
+
+pub or-more : (a b c : Bool) → (b ≡ true → c ≡ true) → a || b ≡ true → a || c ≡ true
+or-more true b c f e = refl
+or-more false b c f e = f e
+
 pub or-cases : (a b : Bool) → a || b ≡ true → (a ≡ true) ⊎ (b ≡ true)
 or-cases true b e = inl refl
 or-cases false b e = inr e

@@ -12,6 +12,7 @@ use lib.Dec.{eqb, leb}
 use borrow.Author.Tests.{eq-eqb, ne-eqb, not-true, not-false, le-leb, lt-leb, leb-true, leb-false}
 use borrow.Author.Needs.{needs}
 use Rattle.ascii.proofs.Clash.{clash}
+use Rattle.ascii.proofs.Bytes.{or-on}
 use Rattle.ascii.specs.Bytes.{pick, within, isKeyStart, isKeyByte, isTokenStart, isTokenByte, isLower, isDigit, isAlpha}
 use Rattle.ascii.specs.Classes.{inClass}
 use Rattle.ascii.specs.declared.Class.the-variants.{Key, Token}
@@ -94,23 +95,19 @@ run-from p s i q t h e = rw (drop-cons s i 0 h, (rw (drop-cons s i 0 h) at t)) (
 pub or-left : (a b : Bool) → a ≡ true → a || b ≡ true
 or-left a b e = rw e
 
-or-is : (a b : Bool) → b ≡ true → a || b ≡ true
-or-is true b e = refl
-or-is false b e = e
-
 pub key-starts : (b : ℕ) → isKeyStart b ≡ true → isKeyByte b ≡ true
 key-starts b h = go (isLower b) h
   where
     go : (l : Bool) → l || eqb b 42 ≡ true → l || isDigit b || eqb b 95 || eqb b 45 || eqb b 46 || eqb b 42 ≡ true
     go true e = refl
-    go false e = or-is (isDigit b || eqb b 95 || eqb b 45 || eqb b 46) _ e
+    go false e = or-on (isDigit b || eqb b 95 || eqb b 45 || eqb b 46) _ e
 
 pub token-starts : (b : ℕ) → isTokenStart b ≡ true → isTokenByte b ≡ true
 token-starts b h = go (isAlpha b) h
   where
     go : (l : Bool) → l || eqb b 42 ≡ true → l || isDigit b || eqb b 33 || within 35 39 b || eqb b 42 || eqb b 43 || within 45 47 b || eqb b 58 || within 94 96 b || eqb b 124 || eqb b 126 ≡ true
     go true e = refl
-    go false e = simp (or-is (isDigit b || eqb b 33 || within 35 39 b) (eqb b 42) e)
+    go false e = simp (or-on (isDigit b || eqb b 33 || within 35 39 b) (eqb b 42) e)
 
 pub key-run : (s : List ℕ) (i q : ℕ) → headIs isKeyStart (drop i s) ≡ true → i < length s → drop q s ≡ past (inClass Key) (drop (i + 1) s) → drop q s ≡ past isKeyByte (drop i s)
 unfolding headIs

@@ -18,14 +18,6 @@ is-false false t = refl
 pub eqb-self : (n : ℕ) → eqb n n ≡ true
 eqb-self n = is-true (eqb n n) (eqb-refl n)
 
-pub or-left : (a b : Bool) → a ≡ true → a || b ≡ true
-or-left true b e = refl
-or-left false b e = clash cc
-
-pub or-right : (a b : Bool) → b ≡ true → a || b ≡ true
-or-right true b e = refl
-or-right false b e = e
-
 pub or-either : {X : Type 0} (a b : Bool) → a || b ≡ true → (a ≡ true → X) → (b ≡ true → X) → X
 or-either true b e f g = f refl
 or-either false b e f g = g e

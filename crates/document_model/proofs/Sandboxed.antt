@@ -11,7 +11,9 @@ use Rattle.containers.proofs.Laws.{sandboxed-is}
 use Rattle.containers.specs.Attributes.{Attributes}
 use Rattle.document_model.specs.Model.{Text, Identity, Document, frameSandboxed, Table, newTable, Call, topLoad, framedLoad, unload, Answer, loaded, removed, topIdentity, framedIdentity, topDocument, framedDocument, tableAfter}
 use Rattle.document_model.specs.History.{Event, Gave, gave-top, gave-framed, Happened, last, earlier, history, SandboxedIn, by-attribute, by-container}
-use Rattle.document_model.proofs.Booleans.{or-either, or-left, or-right}
+use Rattle.ascii.proofs.Bytes.{or-on}
+use Rattle.ascii.proofs.Reading.{or-left}
+use Rattle.document_model.proofs.Booleans.{or-either}
 use Rattle.document_model.proofs.Tables.{In, in-push, in-remaining}
 use Rattle.document_model.proofs.Effects.{pushed, Effect, nothing-else, top-loaded, frame-loaded, all-removed, history-induction}
 
@@ -44,7 +46,7 @@ sandboxed-by-container w a e = sandboxed-is (w .sandboxed) a ∙ or-left (w .san
 
 pub sandboxed-by-attributes : (w : Identity) (a : Attributes) → sandboxes a ≡ true → frameSandboxed w a ≡ true
 unfolding frameSandboxed
-sandboxed-by-attributes w a e = sandboxed-is (w .sandboxed) a ∙ or-right (w .sandboxed) (sandboxes a) e
+sandboxed-by-attributes w a e = sandboxed-is (w .sandboxed) a ∙ or-on (w .sandboxed) (sandboxes a) e
 
 top-marks : (es : List Event) (t : Table) (hd o : Text) (m : Bool) → MarksAgree es t → MarksAgree (record { call = topLoad hd o; answer = loaded (t .next) m } ∷ es) (pushed t (topDocument hd (topIdentity (originOf o) (t .next))))
 unfolding topDocument topIdentity

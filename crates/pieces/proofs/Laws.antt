@@ -13,6 +13,7 @@ use Rattle.ascii.specs.Classes.{outside}
 use Rattle.ascii.specs.Texts.{sameBytes, sameLowered, cutAt}
 use Rattle.ascii.specs.declared.Class.{Class}
 use Rattle.ascii.proofs.Clash.{clash}
+use Rattle.ascii.proofs.Bytes.{or-on, or-more}
 use Rattle.ascii.proofs.Texts.{bytes-same, same-bytes, cut-same}
 use Rattle.features.specs.Features.{featureCount, nameOf, featureOf}
 use Rattle.features.proofs.Laws.{found, found-name}
@@ -118,18 +119,10 @@ unfolding entryOf
 entry-grown ends s t o n = rw (o .first, o .second) (grown-in n (o .earlier) (o .later) (o .feature) (o .front) (o .back) (o .word) (o .one))
 
 -- a keyword among words with one more: what stood stands, and a word that isn't the keyword changes nothing
-or-second : (a b : Bool) → b ≡ true → a || b ≡ true
-or-second true b e = refl
-or-second false b e = e
-
-or-on : (a b c : Bool) → (b ≡ true → c ≡ true) → a || b ≡ true → a || c ≡ true
-or-on true b c h e = refl
-or-on false b c h e = h e
-
 pub keyword-more : (k : List ℕ) (front back : List (List ℕ)) (w : List ℕ) → hasKeyword k (front ++ back) ≡ true → hasKeyword k (front ++ (w ∷ back)) ≡ true
 unfolding hasKeyword
-keyword-more k [] back w e = or-second (sameLowered w k) (hasKeyword k back) e
-keyword-more k (x ∷ front) back w e = or-on (sameLowered x k) (hasKeyword k (front ++ back)) (hasKeyword k (front ++ (w ∷ back))) (keyword-more k front back w) e
+keyword-more k [] back w e = or-on (sameLowered w k) (hasKeyword k back) e
+keyword-more k (x ∷ front) back w e = or-more (sameLowered x k) (hasKeyword k (front ++ back)) (hasKeyword k (front ++ (w ∷ back))) (keyword-more k front back w) e
 
 pub keyword-other : (k : List ℕ) (front back : List (List ℕ)) (w : List ℕ) → sameLowered w k ≡ false → hasKeyword k (front ++ (w ∷ back)) ≡ hasKeyword k (front ++ back)
 unfolding hasKeyword
