@@ -1,7 +1,15 @@
-// Links the proved library that `rt staticlib speed_exports` wrote.
+// Links the proved library that `rt staticlib speed_exports` wrote; for `bench/run names` those of the two lookups.
 fn main() {
     let root = std::env::var("CARGO_MANIFEST_DIR").unwrap();
-    println!("cargo:rustc-link-search=native={root}/../target/staticlib");
-    println!("cargo:rustc-link-lib=static=speed_exports");
-    println!("cargo:rerun-if-changed={root}/../target/staticlib/libspeed_exports.a");
+    let link = |folder: &str, name: &str| {
+        println!("cargo:rustc-link-search=native={root}/../{folder}/staticlib");
+        println!("cargo:rustc-link-lib=static={name}");
+        println!("cargo:rerun-if-changed={root}/../{folder}/staticlib/lib{name}.a");
+    };
+    if std::env::var("CARGO_FEATURE_NAMES").is_ok() {
+        link("target/names_before/target", "names_before");
+        link("target/names_now/target", "names_now");
+    } else {
+        link("target", "speed_exports");
+    }
 }

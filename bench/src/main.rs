@@ -1,5 +1,7 @@
 //! Times the proved library against plain Rust over the same headers and origins, and compares every answer.
+mod common;
 mod plain;
+use common::*;
 use plain::*;
 use std::hint::black_box;
 use std::time::Instant;
@@ -16,12 +18,6 @@ fn admits(d: &[u8], feature: u32, asked: u32, h: &[u8]) -> u32 { unsafe { speed_
 
 const LIMIT: usize = 1024;
 const ROOM: usize = 85 + LIMIT;
-
-struct Rng(u64);
-impl Rng {
-    fn next(&mut self) -> u64 { self.0 ^= self.0 << 13; self.0 ^= self.0 >> 7; self.0 ^= self.0 << 17; self.0.wrapping_mul(0x2545F4914F6CDD1D) >> 11 }
-    fn below(&mut self, n: usize) -> usize { (self.next() % n as u64) as usize }
-}
 
 /// A header whose one list has so many expressions, short enough for the limit.
 fn listed(r: &mut Rng, feature: usize, count: usize) -> String {
@@ -56,8 +52,6 @@ fn one_list(bytes: usize) -> String {
     while t.len() + 30 < bytes { t += &format!(" \"https://m{i}.example\""); i += 1; }
     t + ")"
 }
-
-fn median(mut v: Vec<f64>) -> f64 { v.sort_by(|a, b| a.partial_cmp(b).unwrap()); v[v.len() / 2] }
 
 struct Question { document: usize, feature: u32, asked: u32, host: Vec<u8> }
 

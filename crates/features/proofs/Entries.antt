@@ -1,17 +1,11 @@
 -- What the code's table and its entries say of the features. Assumes nothing.
-use mathlib.Core.Path.{_≡_, refl, ap, _∙_, sym}
-use mathlib.Core.Bool.{Bool, true, false}
+use mathlib.Core.Path.{_≡_, ap, sym}
 use mathlib.Core.List.{List, [], map}
-use mathlib.Core.Option.{Option, some, none}
-use Prim.Native.Nat.{ℕ, _+_, _<_, _≤_}
+use mathlib.Core.Option.{some}
+use Prim.Native.Nat.{ℕ, _<_, _≤_}
 use native.Mathlib.Omega.{arith}
-use native.Mathlib.Numerals.{add-one}
-use lib.ListN.{length, getD, take, drop, drop-of-length-le}
-use lib.Seq.{drop-cons}
-use borrow.Author.Needs.{needs}
-use Rattle.ascii.specs.Bytes.{pick}
-use Rattle.ascii.specs.Texts.{sameBytes}
-use Rattle.features.specs.Features.{Row, features, featureCount, rowName, rowDefault, names, nameOf, defaultOf, featureOf, placeFrom}
+use lib.ListN.{length, getD}
+use Rattle.features.specs.Features.{Row, features, featureCount, rowName, rowDefault, names, nameOf, defaultOf}
 use Rattle.features.specs.Features.Default.{star, self}
 use Rattle.features.specs.Features.Row.{feature}
 use Rattle.features.specs.Answers.{entryAs, listIn, padded, IsEntry, IsName}
@@ -20,7 +14,7 @@ use Rattle.features.specs.declared.DefaultAllowlist.the-variants.{All, S
 use Rattle.features.specs.declared.Feature.{Feature}
 use Rattle.features.specs.declared.Name.{Name}
 use Rattle.features.proofs.Rules.{noRow, rows, map-at, map-some, padded-take, padded-length}
-use Rattle.features.proofs.Laws.{count, name-none, name-short}
+use Rattle.features.proofs.Laws.{name-none, name-short}
 
 row-entry : (n : ℕ) (row : Row) → nameOf n ≡ rowName row → defaultOf n ≡ some (rowDefault row) → IsEntry n (entryAs row)
 unfolding entryAs
@@ -34,16 +28,6 @@ entry-at t d n e h =
     let g : n < length features = omega (arith, rows) in
     rw (e, map-at entryAs noRow d features n g)
     (row-entry n (getD features n noRow) (map-at rowName noRow [] features n g) (map-some rowDefault noRow features n g))
-
--- so its bytes up to its length are the name of its number
-module _ (t : List Feature) (d : Feature) (n : ℕ) (e : t ≡ map entryAs features) (h : n < featureCount) where
-  pub entry-fits : getD t n d .len ≤ length (getD t n d .name)
-  entry-fits =
-      let i : IsEntry n (getD t n d) = entry-at t d n e h in
-      rw (i .name, i .len, padded-length (nameOf n) (name-short n)) (name-short n)
-
-  pub entry-name : take (getD t n d .len) (getD t n d .name) ≡ nameOf n
-  entry-name = let i : IsEntry n (getD t n d) = entry-at t d n e h in rw (i .name, i .len) (padded-take (nameOf n))
 
 -- an entry's default list, by its case
 pub default-star : (d : DefaultAllowlist) (n : ℕ) → d ≡ All → some (listIn d) ≡ defaultOf n → some star ≡ defaultOf n
@@ -66,27 +50,3 @@ name-is n r e f =
 -- the empty name, for a number over 16
 pub no-name : (n : ℕ) (r : Name) → featureCount ≤ n → r .bytes ≡ padded [] → r .len ≡ 0 → IsName n r
 no-name n r h e f = name-is n r (rw (name-none n h) e) (rw (name-none n h) f)
-
--- the search, from its start and by one turn
-pub find-start : (word : List ℕ) → placeFrom 0 word (drop 0 names) ≡ featureOf word
-unfolding featureOf
-find-start word = refl
-
-module _ (word : List ℕ) (n : ℕ) (r : Option ℕ) where
-  module _ (t : List Feature) (d : Feature) (k : t ≡ map entryAs features) (h : n < featureCount) (b : Bool) (a : b ≡ sameBytes word (take (getD t n d .len) (getD t n d .name))) (e : placeFrom n word (drop n names) ≡ r) where
-    same : sameBytes word (nameOf n) ≡ b
-    same = rw (← (entry-name t d n k h)) (sym a)
-
-    pub find-here : b ≡ true → some n ≡ r
-    unfolding nameOf placeFrom pick
-    find-here g = rw (drop-cons names n [] (omega (arith, count)), same ∙ g) at e
-
-    pub find-more : b ≡ false → placeFrom (n + 1) word (drop (n + 1) names) ≡ r
-    unfolding nameOf placeFrom pick
-    find-more g = simp add-one (rw (drop-cons names n [] (omega (arith, count)), same ∙ g) at e)
-
-  pub find-end : featureCount ≤ n → placeFrom n word (drop n names) ≡ r → none ≡ r
-  unfolding placeFrom
-  find-end h e = rw (drop-of-length-le names {i = n} (omega (arith, count))) at e
-
-pub ruleset finds = (find-start, entry-fits, find-here, find-more, find-end, needs)

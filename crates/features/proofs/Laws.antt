@@ -4,7 +4,7 @@ use mathlib.Core.Bool.{Bool, true, false}
 use mathlib.Core.List.{List, [], _++_}
 use mathlib.Core.Option.{some, none}
 use Prim.Native.Nat.{ℕ, _+_, _-_, _<_, _≤_}
-use native.Mathlib.Nat.{zero-add}
+use native.Mathlib.Nat.{zero-add, not-suc-le-zero}
 use native.Mathlib.Omega.{arith}
 use lib.ListN.{length, getD, List·getD-eq-default}
 use lib.Dec.{leb, ltb}
@@ -89,6 +89,23 @@ pub name-some : (n : ℕ) → n < featureCount → 0 < length (nameOf n)
 unfolding nameOf
 name-some n h = ltb-true 0 (length (nameOf n)) (every-at (λ s. ltb 0 (length s)) [] names n names-some (omega (arith, count)))
 
+-- so only a feature's number has a name
+pub named-below : (n : ℕ) → 0 < length (nameOf n) → n < featureCount
+named-below n h = go (ltb n featureCount) refl
+  where
+    go : (b : Bool) → ltb n featureCount ≡ b → n < featureCount
+    go true t = ltb-true n featureCount t
+    go false t = absurd (not-suc-le-zero (rw (name-none n (ltb-false n featureCount t)) at h))
+
+-- every name has a third byte
+pub names-three : every (λ s. leb 3 (length s)) names ≡ true
+unfolding features names every
+names-three = refl
+
+pub name-three : (n : ℕ) → n < featureCount → 3 ≤ length (nameOf n)
+unfolding nameOf
+name-three n h = leb-true 3 (length (nameOf n)) (every-at (λ s. leb 3 (length s)) [] names n names-three (omega (arith, count)))
+
 -- a name has at most 33 bytes
 pub names-short : every (λ s. leb (length s) nameBytes) names ≡ true
 unfolding features names every
@@ -134,12 +151,12 @@ name-run n rest h e = every-run isKeyByte (nameOf n) rest (name-bytes n h) e
 pub name-past : (n : ℕ) (rest : List ℕ) → n < featureCount → isKeyByte (headOf rest) ≡ false → past isKeyByte (nameOf n ++ rest) ≡ rest
 name-past n rest h e = every-past isKeyByte (nameOf n) rest (name-bytes n h) e
 
--- the number that a lookup answers, as omega reads it
 -- an empty word is no name
 pub no-feature : featureOf [] ≡ none
 unfolding featureOf placeFrom features names sameBy pick
 no-feature = refl
 
+-- the number that a lookup answers, as omega reads it
 pub number-known : (r : Lookup) (n : ℕ) → r ≡ Known n → numberIn r ≡ n
 number-known r n e = rw e
 

@@ -1,4 +1,6 @@
 pub mod Features
+pub mod Discarding
+pub mod Packing
 pub mod Answers
 pub mod Computing
 pub mod Examples

@@ -1,8 +1,10 @@
-// Cases of document 01: what origin texts say, what expressions are read as, which origins they
-// admit, which origins are the same, and the features. Each line of standard input is a case: its
-// kind and one or two texts in quotes. It is written again with the answer after it.
+// Cases of document 01 and of 02's R-2: what origin texts say, what expressions are read as, which
+// origins they admit, which origins are the same, the features, and which name is left to compare
+// with a word. Each line of standard input is a case: its kind and one or two texts in quotes. It is
+// written again with the answer after it.
 use ascii::Class;
 use features::DefaultOf;
+use features::Left;
 use features::Lookup;
 use origins::ExpressionRange;
 use origins::HostKind;
@@ -180,6 +182,19 @@ fn feature(word: &[u8]) {
     }
 }
 
+// The name that is left to compare with a word.
+fn left(word: &[u8]) {
+    put_text(b"left", word);
+    match features::left_to_compare(word) {
+        Left::One(n) => {
+            put(b": ");
+            io::print_decimal(1, n as u64);
+            put(b"\n");
+        }
+        Left::Nothing => put(b": nothing\n"),
+    }
+}
+
 // A text in quotes, and the place past it.
 struct Quoted {
     from: usize,
@@ -211,6 +226,7 @@ fn case(line: &[u8]) {
         b'a' => admits(s, t),
         b's' => same(s, t),
         b'f' => feature(s),
+        b'l' => left(s),
         _ => put(b"no case\n"),
     }
 }

@@ -1,0 +1,129 @@
+//! The lookup of a feature's name: the proved one, the one before R-2, and plain Rust's `match`, on the same words in one run.
+mod common;
+#[allow(dead_code)]
+mod plain;
+use common::*;
+use plain::NAMES;
+use std::hint::black_box;
+use std::time::Instant;
+
+extern "C" {
+    fn names_now(s: *const u8, n: usize) -> u32;
+    fn names_before(s: *const u8, n: usize) -> u32;
+}
+
+extern "C" fn now(s: *const u8, n: usize) -> u32 { unsafe { names_now(s, n) } }
+extern "C" fn before(s: *const u8, n: usize) -> u32 { unsafe { names_before(s, n) } }
+
+/// Called, as the two others are, and not inlined.
+#[inline(never)]
+extern "C" fn by_match(s: *const u8, n: usize) -> u32 {
+    match unsafe { std::slice::from_raw_parts(s, n) } {
+        b"camera" => 0,
+        b"display-capture" => 1,
+        b"downloads-without-user-activation" => 2,
+        b"forms" => 3,
+        b"fullscreen" => 4,
+        b"geolocation" => 5,
+        b"microphone" => 6,
+        b"modals" => 7,
+        b"orientation-lock" => 8,
+        b"payment" => 9,
+        b"plugins" => 10,
+        b"pointer-lock" => 11,
+        b"popups" => 12,
+        b"presentation" => 13,
+        b"scripts" => 14,
+        b"top-navigation" => 15,
+        b"usb" => 16,
+        _ => 17,
+    }
+}
+
+/// Features of the W3C's list that are none of the seventeen.
+const OTHERS: [&str; 20] = [
+    "accelerometer", "ambient-light-sensor", "autoplay", "battery", "bluetooth", "clipboard-read", "clipboard-write", "encrypted-media", "gamepad", "gyroscope",
+    "hid", "idle-detection", "magnetometer", "midi", "picture-in-picture", "screen-wake-lock", "serial", "storage-access", "web-share", "xr-spatial-tracking",
+];
+
+fn known(r: &mut Rng) -> Vec<u8> { NAMES[r.below(17)].as_bytes().to_vec() }
+
+/// A name with one byte changed.
+fn near(r: &mut Rng) -> Vec<u8> {
+    let mut w = known(r);
+    let at = r.below(w.len());
+    let was = w[at];
+    while w[at] == was { w[at] = b'a' + r.below(26) as u8; }
+    w
+}
+
+/// Another feature's name, or up to 23 random letters.
+fn unknown(r: &mut Rng) -> Vec<u8> {
+    if r.below(2) == 0 { OTHERS[r.below(20)].as_bytes().to_vec() } else { (0..r.below(24)).map(|_| b'a' + r.below(26) as u8).collect() }
+}
+
+/// Words one after the other in one text, as an attribute has them.
+struct Words { text: Vec<u8>, at: Vec<(usize, usize)> }
+
+fn words(count: usize, mut next: impl FnMut(usize) -> Vec<u8>) -> Words {
+    let mut w = Words { text: vec![], at: vec![] };
+    for i in 0..count {
+        let word = next(i);
+        w.at.push((w.text.len(), word.len()));
+        w.text.extend(word);
+        w.text.push(b' ');
+    }
+    w
+}
+
+fn time(kind: &str, mut w: Words, r: &mut Rng) {
+    let lookups: [(&str, extern "C" fn(*const u8, usize) -> u32); 3] = [("before", before), ("now", now), ("plain Rust", by_match)];
+    let mut times = [vec![], vec![], vec![]];
+    for round in 0..300 {
+        // a new order for each round, the same for the three, so that no branch is foretold from the last round
+        for i in (1..w.at.len()).rev() { let j = r.below(i + 1); w.at.swap(i, j); }
+        for k in 0..3 {
+            let k = (k + round) % 3;
+            let text = w.text.as_ptr();
+            let t = Instant::now();
+            for &(from, n) in &w.at { black_box(lookups[k].1(black_box(unsafe { text.add(from) }), n)); }
+            times[k].push(t.elapsed().as_nanos() as f64 / w.at.len() as f64);
+        }
+    }
+    let [b, n, p] = times.map(median);
+    println!("names, {kind}: before {b:.1} ns, now {n:.1} ns, plain Rust {p:.1} ns; now / plain Rust {:.2}, now / before {:.2}", n / p, n / b);
+}
+
+fn same(w: &[u8]) {
+    let want = by_match(w.as_ptr(), w.len());
+    assert_eq!(want, now(w.as_ptr(), w.len()), "{w:?}");
+    assert_eq!(want, before(w.as_ptr(), w.len()), "{w:?}");
+}
+
+fn main() {
+    let mut r = Rng(17);
+    let mut compared = 0;
+    // every name; every name with one byte changed to every other value; every name cut and made longer
+    for (i, name) in NAMES.iter().enumerate() {
+        assert_eq!(i as u32, now(name.as_ptr(), name.len()));
+        for at in 0..name.len() {
+            for b in 0..=255 {
+                let mut w = name.as_bytes().to_vec();
+                w[at] = b;
+                same(&w);
+                same(&w[..at]);
+                w.insert(at, b);
+                same(&w);
+                compared += 3;
+            }
+        }
+    }
+    for _ in 0..100_000 { same(&unknown(&mut r)); compared += 1; }
+    println!("names: {compared} words, no answer differs");
+    let count = 6144;
+    let mut s = Rng(5);
+    time("mix", words(count, |i| match i % 3 { 0 => known(&mut s), 1 => near(&mut s), _ => unknown(&mut s) }), &mut r);
+    time("known names", words(count, |_| known(&mut s)), &mut r);
+    time("near misses", words(count, |_| near(&mut s)), &mut r);
+    time("unknown words", words(count, |_| unknown(&mut s)), &mut r);
+}

@@ -1,0 +1,79 @@
+-- From a length and a third byte to the number of the name that may have them: computed over the seventeen names. Assumes nothing.
+use mathlib.Core.Path.{_≡_, refl, sym}
+use mathlib.Core.Bool.{Bool, true, false}
+use mathlib.Core.List.{List, []}
+use mathlib.Core.Option.{Option, some, none}
+use Prim.Native.Nat.{ℕ, zero, suc, _+_, _*_, _^_, _/_, _%_, _<_, _≤_}
+use native.Mathlib.Omega.{arith}
+use lib.Dec.{eqb, leb}
+use lib.ListN.{length, getD}
+use borrow.Author.Tests.{eqb-true, eqb-false, le-leb, lt-leb}
+use Rattle.ascii.specs.Bytes.{pick}
+use Rattle.ascii.specs.Texts.{every}
+use Rattle.ascii.proofs.Texts.{every-at}
+use Rattle.features.specs.Features.{featureCount, names, nameOf, featureOf}
+use Rattle.features.specs.Discarding.{thirdOf}
+use Rattle.features.specs.Packing.{frontOf, backOf}
+use Rattle.features.specs.Answers.{IsPacked, OnlyNumber}
+use Rattle.features.specs.declared.Packed.{Packed}
+use Rattle.features.proofs.Laws.{count, found, name-none}
+
+-- the number of a short name in a number of eight bytes, and of a long one in a number of sixteen half bytes
+abbrev pub shortIn : ℕ → ℕ → ℕ → ℕ
+shortIn packed len third = packed / 2 ^ (8 * ((len % 16 + third) % 8)) % 256
+
+abbrev pub longIn : ℕ → ℕ → ℕ → ℕ
+longIn packed len third = packed / 2 ^ (4 * ((len % 16 + third) % 16)) % 16
+
+-- whether a name's number is found by its length and third byte
+abbrev isNumber : ℕ → Option ℕ → Bool
+isNumber k (some n) = eqb n k
+isNumber k none = false
+
+unfoldable pub shortRight : ℕ → List ℕ → Bool
+shortRight packed name = pick (leb (length name) 8) (isNumber (shortIn packed (length name) (thirdOf name)) (featureOf name)) true
+
+unfoldable pub longRight : ℕ → List ℕ → Bool
+longRight packed name = pick (leb (length name) 8) true (isNumber (longIn packed (length name) (thirdOf name)) (featureOf name))
+
+-- so no other name has them
+module _ (packed len third : ℕ) where
+  pub short-only : every (shortRight packed) names ≡ true → len ≤ 8 → OnlyNumber len third (shortIn packed len third)
+  unfolding shortRight nameOf pick
+  short-only e h =
+      record {
+        only =
+            λ n l u v.
+            let a : shortRight packed (nameOf n) ≡ true = every-at (shortRight packed) [] names n e (omega (arith, count)) in
+            eqb-true n (shortIn packed len third) (rw (found n l, u, v, le-leb len 8 h) at a);
+      }
+
+  pub long-only : every (longRight packed) names ≡ true → 8 < len → OnlyNumber len third (longIn packed len third)
+  unfolding longRight nameOf pick
+  long-only e h =
+      record {
+        only =
+            λ n l u v.
+            let a : longRight packed (nameOf n) ≡ true = every-at (longRight packed) [] names n e (omega (arith, count)) in
+            eqb-true n (longIn packed len third) (rw (found n l, u, v, lt-leb len 8 h) at a);
+      }
+
+-- what is said of one number holds of a number that is it
+pub packed-at : (n k : ℕ) (r : Packed) → n ≡ k → r .len ≡ length (nameOf k) → r .third ≡ thirdOf (nameOf k) → r .front ≡ frontOf (nameOf k) → r .back ≡ backOf (nameOf k) → IsPacked n r
+packed-at n k r e a b f g = rw e (record { len = a; third = b; front = f; back = g })
+
+-- a number that is none of the first ones
+abbrev pub NoneBelow : ℕ → ℕ → Type 0
+NoneBelow zero n = Unit
+NoneBelow (suc k) n = NoneBelow k n × (n ≡ k → ⊥)
+
+pub none-below : (k n : ℕ) → NoneBelow k n → k ≤ n
+none-below zero n h = omega arith
+none-below (suc k) n h = let a : k ≤ n = none-below k n (h .0) in go (eqb n k) refl a
+  where
+    go : (b : Bool) → eqb n k ≡ b → k ≤ n → suc k ≤ n
+    go true t a = absurd (h .1 (eqb-true n k t))
+    go false t a = let d : (n ≡ k → ⊥) = eqb-false n k t in omega arith
+
+pub packed-none : (n : ℕ) (r : Packed) → featureCount ≤ n → r ≡ record { len = 0; third = 0; front = 0; back = 0 } → IsPacked n r
+packed-none n r h e = rw (e) (record { len = rw (name-none n h); third = rw (name-none n h); front = rw (name-none n h); back = rw (name-none n h) })
