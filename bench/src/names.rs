@@ -8,17 +8,13 @@ use std::hint::black_box;
 use std::time::Instant;
 
 extern "C" {
-    fn names_now(s: *const u8, n: usize) -> u32;
     fn names_before(s: *const u8, n: usize) -> u32;
+    fn names_now(s: *const u8, n: usize) -> u32;
 }
 
-extern "C" fn now(s: *const u8, n: usize) -> u32 { unsafe { names_now(s, n) } }
-extern "C" fn before(s: *const u8, n: usize) -> u32 { unsafe { names_before(s, n) } }
-
-/// Called, as the two others are, and not inlined.
-#[inline(never)]
-extern "C" fn by_match(s: *const u8, n: usize) -> u32 {
-    match unsafe { std::slice::from_raw_parts(s, n) } {
+/// Called through a pointer, as the two others are.
+unsafe extern "C" fn by_match(s: *const u8, n: usize) -> u32 {
+    match std::slice::from_raw_parts(s, n) {
         b"camera" => 0,
         b"display-capture" => 1,
         b"downloads-without-user-activation" => 2,
@@ -76,17 +72,19 @@ fn words(count: usize, mut next: impl FnMut(usize) -> Vec<u8>) -> Words {
     w
 }
 
+type Lookup = unsafe extern "C" fn(*const u8, usize) -> u32;
+
 fn time(kind: &str, mut w: Words, r: &mut Rng) {
-    let lookups: [(&str, extern "C" fn(*const u8, usize) -> u32); 3] = [("before", before), ("now", now), ("plain Rust", by_match)];
+    let lookups: [Lookup; 3] = [names_before, names_now, by_match];
+    let orders = [[0, 1, 2], [2, 1, 0], [1, 2, 0], [0, 2, 1], [2, 0, 1], [1, 0, 2]];
     let mut times = [vec![], vec![], vec![]];
     for round in 0..300 {
-        // a new order for each round, the same for the three, so that no branch is foretold from the last round
+        // the words in a new order for each round, the same for the three, so that no branch is predicted from the last round
         for i in (1..w.at.len()).rev() { let j = r.below(i + 1); w.at.swap(i, j); }
-        for k in 0..3 {
-            let k = (k + round) % 3;
-            let text = w.text.as_ptr();
+        for k in orders[round % 6] {
+            let (text, lookup) = (w.text.as_ptr(), black_box(lookups[k]));
             let t = Instant::now();
-            for &(from, n) in &w.at { black_box(lookups[k].1(black_box(unsafe { text.add(from) }), n)); }
+            for &(from, n) in &w.at { black_box(unsafe { lookup(black_box(text.add(from)), n) }); }
             times[k].push(t.elapsed().as_nanos() as f64 / w.at.len() as f64);
         }
     }
@@ -95,31 +93,33 @@ fn time(kind: &str, mut w: Words, r: &mut Rng) {
 }
 
 fn same(w: &[u8]) {
-    let want = by_match(w.as_ptr(), w.len());
-    assert_eq!(want, now(w.as_ptr(), w.len()), "{w:?}");
-    assert_eq!(want, before(w.as_ptr(), w.len()), "{w:?}");
+    let want = unsafe { by_match(w.as_ptr(), w.len()) };
+    assert_eq!(want, unsafe { names_now(w.as_ptr(), w.len()) }, "{w:?}");
+    assert_eq!(want, unsafe { names_before(w.as_ptr(), w.len()) }, "{w:?}");
 }
 
 fn main() {
     let mut r = Rng(17);
-    let mut compared = 0;
-    // every name; every name with one byte changed to every other value; every name cut and made longer
+    let mut compared = std::collections::BTreeSet::new();
+    // every name; every name with one byte changed to every value, with one byte more at every place, and cut at every place; random words
     for (i, name) in NAMES.iter().enumerate() {
-        assert_eq!(i as u32, now(name.as_ptr(), name.len()));
-        for at in 0..name.len() {
+        assert_eq!(i as u32, unsafe { names_now(name.as_ptr(), name.len()) });
+        for at in 0..=name.len() {
+            compared.insert(name.as_bytes()[..at].to_vec());
             for b in 0..=255 {
                 let mut w = name.as_bytes().to_vec();
-                w[at] = b;
-                same(&w);
-                same(&w[..at]);
                 w.insert(at, b);
-                same(&w);
-                compared += 3;
+                compared.insert(w.clone());
+                if at < name.len() {
+                    w.remove(at + 1);
+                    compared.insert(w);
+                }
             }
         }
     }
-    for _ in 0..100_000 { same(&unknown(&mut r)); compared += 1; }
-    println!("names: {compared} words, no answer differs");
+    for _ in 0..100_000 { compared.insert(unknown(&mut r)); }
+    compared.iter().for_each(|w| same(w));
+    println!("names: {} words, no answer differs", compared.len());
     let count = 6144;
     let mut s = Rng(5);
     time("mix", words(count, |i| match i % 3 { 0 => known(&mut s), 1 => near(&mut s), _ => unknown(&mut s) }), &mut r);

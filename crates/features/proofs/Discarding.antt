@@ -3,7 +3,6 @@ use mathlib.Core.Path.{_≡_, refl, sym}
 use mathlib.Core.Logic.{⊎-elim}
 use mathlib.Core.Bool.{Bool, true, false, not, _&&_}
 use mathlib.Core.List.{List, [], _∷_}
-use mathlib.Core.Option.{Option, some, none}
 use Prim.Native.Nat.{ℕ, zero, suc, _+_, _<_, _≤_, suc-le-suc}
 use native.Mathlib.Nat.{zero-add, add-zero, add-suc, suc-add, le-of-suc-le-suc, zero-lt-suc, not-suc-le-zero}
 use native.Mathlib.Omega.{arith}
@@ -12,14 +11,14 @@ use lib.ListN.{length, getD}
 use borrow.Author.Tests.{eqb-true, eq-eqb}
 use Rattle.ascii.proofs.Clash.{clash}
 use Rattle.ascii.proofs.Bytes.{and-left, and-right, or-on, or-cases, or-false}
-use Rattle.ascii.proofs.Texts.{every-at, bytes-same, same-bytes}
+use Rattle.ascii.proofs.Texts.{every-at}
 use Rattle.ascii.specs.Bytes.{pick}
-use Rattle.ascii.specs.Texts.{every, sameBytes}
-use Rattle.features.specs.Features.{features, featureCount, names, nameOf, featureOf}
+use Rattle.ascii.specs.Texts.{every}
+use Rattle.features.specs.Features.{features, featureCount, names, nameOf}
 use Rattle.features.specs.Discarding.{thirdOf, agree, leftFrom, leftToCompare, isAmong}
 use Rattle.features.specs.Answers.{leftIn}
 use Rattle.features.specs.declared.Left.{Left}
-use Rattle.features.proofs.Laws.{count, found, found-name, found-below}
+use Rattle.features.proofs.Laws.{count}
 
 -- what it is to agree
 module _ (a b : List ℕ) where
@@ -114,10 +113,13 @@ unfolding leftToCompare
 by-length-and-third a b e f = same-from names 0 a b e f
 
 module _ (word : List ℕ) where
-  -- R-2: "for any word at most two of the seventeen may be left to compare". At most one is.
+  -- R-2: "for any word at most two of the seventeen may be left to compare": at most one is
   pub at-most-one : length (leftToCompare word) ≤ 1
   unfolding leftToCompare
   at-most-one = one-from names 0 word names-apart
+
+  pub at-most-two : length (leftToCompare word) ≤ 2
+  at-most-two = omega (arith, at-most-one)
 
   pub is-left : (n : ℕ) → n < featureCount → agree word (nameOf n) ≡ true → isAmong n (leftToCompare word) ≡ true
   unfolding leftToCompare nameOf
@@ -136,7 +138,7 @@ module _ (word : List ℕ) where
   unfolding leftToCompare nameOf
   left-agrees n e = let s : LeftAt names 0 word n = left-at names 0 n word e in let u : s .place ≡ n = omega arith in rw u at (s .agrees)
 
-  -- the answers of the discarding
+  -- where no name agrees, and where one does
   pub none-left : ((n : ℕ) → n < featureCount → agree word (nameOf n) ≡ true → ⊥) → [] ≡ leftToCompare word
   unfolding leftToCompare nameOf
   none-left h = sym (none-from names 0 word (λ i l. h i (omega (arith, count))))
@@ -150,10 +152,10 @@ module _ (word : List ℕ) where
       go (x ∷ []) h f = rw (eqb-true n x (rw (or-false (eqb n x)) at f))
       go (x ∷ y ∷ s) h f = absurd (not-suc-le-zero (le-of-suc-le-suc h))
 
--- R-2's two statements of the answer of `left_to_compare`: whatever meets its contract leaves at most two, and it never discards a name that is the word
+-- R-2's two statements of the answer of `left_to_compare`, which says what the definition says. That it has at most one number its type tells already; that no second name agrees is the definition's law.
 module _ (word : List ℕ) (r : Left) (is : leftIn r ≡ leftToCompare word) where
-  pub at-most-two-left : length (leftIn r) ≤ 2
-  at-most-two-left = rw is (omega (arith, at-most-one word))
+  pub answer-at-most-one : length (leftIn r) ≤ 1
+  answer-at-most-one = rw is (at-most-one word)
 
-  pub discarded-by-answer : (n : ℕ) → n < featureCount → isAmong n (leftIn r) ≡ false → word ≡ nameOf n → ⊥
-  discarded-by-answer n l e = discarded-differs word n l (rw is at e)
+  pub answer-discarded-differs : (n : ℕ) → n < featureCount → isAmong n (leftIn r) ≡ false → word ≡ nameOf n → ⊥
+  answer-discarded-differs n l e = discarded-differs word n l (rw is at e)

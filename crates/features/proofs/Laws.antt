@@ -80,23 +80,6 @@ pub default-some : (n : ℕ) → n < featureCount → (d : Default) × (defaultO
 unfolding defaultOf
 default-some n h = (rowDefault (getD features n noRow), map-some rowDefault noRow features n (omega (arith, rows)))
 
--- no name is empty
-pub names-some : every (λ s. ltb 0 (length s)) names ≡ true
-unfolding features names every
-names-some = refl
-
-pub name-some : (n : ℕ) → n < featureCount → 0 < length (nameOf n)
-unfolding nameOf
-name-some n h = ltb-true 0 (length (nameOf n)) (every-at (λ s. ltb 0 (length s)) [] names n names-some (omega (arith, count)))
-
--- so only a feature's number has a name
-pub named-below : (n : ℕ) → 0 < length (nameOf n) → n < featureCount
-named-below n h = go (ltb n featureCount) refl
-  where
-    go : (b : Bool) → ltb n featureCount ≡ b → n < featureCount
-    go true t = ltb-true n featureCount t
-    go false t = absurd (not-suc-le-zero (rw (name-none n (ltb-false n featureCount t)) at h))
-
 -- every name has a third byte
 pub names-three : every (λ s. leb 3 (length s)) names ≡ true
 unfolding features names every
@@ -105,6 +88,18 @@ names-three = refl
 pub name-three : (n : ℕ) → n < featureCount → 3 ≤ length (nameOf n)
 unfolding nameOf
 name-three n h = leb-true 3 (length (nameOf n)) (every-at (λ s. leb 3 (length s)) [] names n names-three (omega (arith, count)))
+
+-- so none is empty
+pub name-some : (n : ℕ) → n < featureCount → 0 < length (nameOf n)
+name-some n h = omega (arith, name-three n h)
+
+-- only a feature's number has a name that isn't
+pub named-below : (n : ℕ) → 0 < length (nameOf n) → n < featureCount
+named-below n h = go (ltb n featureCount) refl
+  where
+    go : (b : Bool) → ltb n featureCount ≡ b → n < featureCount
+    go true t = ltb-true n featureCount t
+    go false t = absurd (not-suc-le-zero (rw (name-none n (ltb-false n featureCount t)) at h))
 
 -- a name has at most 33 bytes
 pub names-short : every (λ s. leb (length s) nameBytes) names ≡ true

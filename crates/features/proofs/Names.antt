@@ -1,4 +1,4 @@
--- How a word is compared with a name that is left. Assumes nothing.
+-- Which name is left to compare with a word, and whether it is the word, as the code finds both. Assumes nothing.
 use mathlib.Core.Path.{_≡_, refl, sym, _∙_}
 use mathlib.Core.Bool.{Bool, true, false, _&&_, _||_}
 use mathlib.Core.List.{List, [], _∷_}
@@ -29,7 +29,7 @@ use Rattle.features.proofs.Laws.{count, found, found-name, found-below,
 use Rattle.features.proofs.Packing.{Bytes, packed-same}
 use Rattle.features.proofs.Discarding.{agree-length, agree-third, agreeing, discarded-differs, left-below, left-agrees, none-left, one-left}
 
--- the answers of the discarding
+-- which name is left: none for a short word, else the only one that may agree, if it does
 module _ (word : List ℕ) where
   pub left-short : length word < 3 → [] ≡ leftToCompare word
   left-short h = none-left word (λ n l e. omega (arith, name-three n l, agree-length word (nameOf n) e))
@@ -52,7 +52,7 @@ module _ (word : List ℕ) where
         let b : eqb (name .third) (thirdOf word) ≡ true = eq-eqb (name .third) (thirdOf word) (cc (is .third)) in
         clash cc)
 
--- byte by byte, one turn and the end
+-- two texts compared byte by byte, one turn and the end
 module _ (a b : List ℕ) (i : ℕ) (so r : Bool) (len : length a ≡ length b) (e : so && sameBytes (drop i a) (drop i b) ≡ r) where
   pub byte-turn : i < length a → (so && eqb (getD a i 0) (getD b i 0)) && sameBytes (drop (i + 1) a) (drop (i + 1) b) ≡ r
   unfolding sameBy pick
@@ -71,28 +71,38 @@ module _ (a b : List ℕ) (i : ℕ) (so r : Bool) (len : length a ≡ length b) 
       go true f = f
       go false f = f
 
--- the names that are shorter than 4 bytes or longer than 16
-shortest : every (λ s. leb 4 (length s) || sameBytes s (text "usb")) names ≡ true
+-- the one name that is shorter than 4 bytes, and the one that is longer than 16
+abbrev pub shortestName : List ℕ
+shortestName = text "usb"
+
+abbrev pub longestName : List ℕ
+longestName = text "downloads-without-user-activation"
+
+shortest : every (λ s. leb 4 (length s) || sameBytes s shortestName) names ≡ true
 unfolding computing
 shortest = refl
 
-longest : every (λ s. leb (length s) 16 || sameBytes s (text "downloads-without-user-activation")) names ≡ true
+longest : every (λ s. leb (length s) 16 || sameBytes s longestName) names ≡ true
 unfolding computing
 longest = refl
 
--- every byte of a name is one
-names-below : every (every (λ b. ltb b 256)) names ≡ true
-unfolding computing
-names-below = refl
-
-name-below : (n : ℕ) → n < featureCount → Bytes (nameOf n)
+all-but : (p : List ℕ → Bool) (t : List ℕ) → every (λ s. p s || sameBytes s t) names ≡ true → (n : ℕ) → n < featureCount → p (nameOf n) ≡ false → nameOf n ≡ t
 unfolding nameOf
-name-below n h i = go (ltb i (length (nameOf n))) refl
+all-but p t e n h f = bytes-same (nameOf n) t (rw f at (every-at (λ s. p s || sameBytes s t) [] names n e (omega (arith, count))))
+
+-- every element of a name is below 256
+names-octets : every (every (λ b. ltb b 256)) names ≡ true
+unfolding computing
+names-octets = refl
+
+name-octets : (n : ℕ) → n < featureCount → Bytes (nameOf n)
+unfolding nameOf
+name-octets n h i = go (ltb i (length (nameOf n))) refl
   where
     go : (b : Bool) → ltb i (length (nameOf n)) ≡ b → getD (nameOf n) i 0 < 256
     go true t =
         ltb-true (getD (nameOf n) i 0) 256
-        (every-at (λ b. ltb b 256) 0 (nameOf n) i (every-at (every (λ b. ltb b 256)) [] names n names-below (omega (arith, count))) (ltb-true i (length (nameOf n)) t))
+        (every-at (λ b. ltb b 256) 0 (nameOf n) i (every-at (every (λ b. ltb b 256)) [] names n names-octets (omega (arith, count))) (ltb-true i (length (nameOf n)) t))
     go false t = rw (List·getD-eq-default (nameOf n) 0 (ltb-false i (length (nameOf n)) t)) (omega arith)
 
 -- what is answered where one name is left, and where none is
@@ -114,33 +124,22 @@ module _ (word : List ℕ) (n : ℕ) (left : n ∷ [] ≡ leftToCompare word) wh
   one-length : length word ≡ length (nameOf n)
   one-length = agree-length word (nameOf n) (left-agrees word n (sym (among n) ∙ eq-eqb n n refl))
 
-  short-name : length word < 4 → nameOf n ≡ text "usb"
-  unfolding nameOf
-  short-name h =
-      bytes-same (nameOf n) (text "usb")
-      (rw (lt-leb 4 (length (nameOf n)) (rw one-length at h)) at (every-at (λ s. leb 4 (length s) || sameBytes s (text "usb")) [] names n shortest (omega (arith, count, one-below))))
+  pub short-name : length word < 4 → nameOf n ≡ shortestName
+  short-name h = all-but (λ s. leb 4 (length s)) shortestName shortest n one-below (lt-leb 4 (length (nameOf n)) (rw one-length at h))
 
-  long-name : 16 < length word → nameOf n ≡ text "downloads-without-user-activation"
-  unfolding nameOf
-  long-name h =
-      bytes-same (nameOf n) (text "downloads-without-user-activation")
-      (rw (lt-leb (length (nameOf n)) 16 (rw one-length at h)) at (every-at (λ s. leb (length s) 16 || sameBytes s (text "downloads-without-user-activation")) [] names n longest (omega (arith, count, one-below))))
+  pub long-name : 16 < length word → nameOf n ≡ longestName
+  long-name h = all-but (λ s. leb (length s) 16) longestName longest n one-below (lt-leb (length (nameOf n)) 16 (rw one-length at h))
 
-  pub short-length : length word < 4 → length word ≡ 3
-  short-length h = one-length ∙ rw (short-name h)
+  module _ (t : List ℕ) (is : nameOf n ≡ t) where
+    pub text-length : length word ≡ length t
+    text-length = rw is at one-length
 
-  pub long-length : 16 < length word → length word ≡ 33
-  long-length h = one-length ∙ rw (long-name h)
-
-  pub short-test : (r : Bool) → length word < 4 → r ≡ sameBytes word (text "usb") → r ≡ sameBytes word (nameOf n)
-  short-test r h e = rw (short-name h) e
-
-  pub long-test : (r : Bool) → 16 < length word → r ≡ sameBytes word (text "downloads-without-user-activation") → r ≡ sameBytes word (nameOf n)
-  long-test r h e = rw (long-name h) e
+    pub text-test : (r : Bool) → r ≡ sameBytes word t → r ≡ sameBytes word (nameOf n)
+    text-test r e = rw is e
 
   -- a word of 4 to 16 bytes is the name exactly if its two numbers are the name's
   pub packed-test : (name : Packed) (f b : ℕ) → IsPacked n name → Bytes word → 4 ≤ length word → length word ≤ 16 → f ≡ frontOf word → b ≡ backOf word → eqb f (name .front) && eqb b (name .back) ≡ sameBytes word (nameOf n)
-  packed-test name f b is bytes least most d e = rw (d, e) (go (eqb (frontOf word) (name .front) && eqb (backOf word) (name .back)) (sameBytes word (nameOf n)) refl refl)
+  packed-test name f b is bytes from to d e = rw (d, e) (go (eqb (frontOf word) (name .front) && eqb (backOf word) (name .back)) (sameBytes word (nameOf n)) refl refl)
     where
       go : (x y : Bool) → eqb (frontOf word) (name .front) && eqb (backOf word) (name .back) ≡ x → sameBytes word (nameOf n) ≡ y → x ≡ y
       go true true e f = refl
@@ -148,7 +147,7 @@ module _ (word : List ℕ) (n : ℕ) (left : n ∷ [] ≡ leftToCompare word) wh
       go true false e f =
           let front : frontOf word ≡ name .front = eqb-true _ _ (and-left (eqb (frontOf word) (name .front)) (eqb (backOf word) (name .back)) e) in
           let back : backOf word ≡ name .back = eqb-true _ _ (and-right (eqb (frontOf word) (name .front)) (eqb (backOf word) (name .back)) e) in
-          let u : word ≡ nameOf n = packed-same word (nameOf n) bytes (name-below n one-below) one-length least most (front ∙ is .front) (back ∙ is .back) in
+          let u : word ≡ nameOf n = packed-same word (nameOf n) bytes (name-octets n one-below) one-length from to (front ∙ is .front) (back ∙ is .back) in
           sym (same-bytes (nameOf n)) ∙ (rw u at f)
       go false true e f =
           let u : word ≡ nameOf n = bytes-same word (nameOf n) f in
@@ -156,6 +155,7 @@ module _ (word : List ℕ) (n : ℕ) (left : n ∷ [] ≡ leftToCompare word) wh
           let y : eqb (backOf word) (name .back) ≡ true = eq-eqb (backOf word) (name .back) (rw (u, is .back)) in
           clash cc
 
+  -- the lookup's answers
   pub known-is : (b : Bool) → b ≡ sameBytes word (nameOf n) → b ≡ true → IsLookup word (Known n)
   known-is b e t = record { is = rw (bytes-same word (nameOf n) (sym e ∙ t)) (sym (found n one-below)); below = one-below }
 

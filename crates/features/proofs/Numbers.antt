@@ -1,12 +1,12 @@
--- From a length and a third byte to the number of the name that may have them: computed over the seventeen names. Assumes nothing.
-use mathlib.Core.Path.{_≡_, refl, sym}
+-- The names in the code's numbers: computed over the seventeen names. Assumes nothing.
+use mathlib.Core.Path.{_≡_, refl}
 use mathlib.Core.Bool.{Bool, true, false}
 use mathlib.Core.List.{List, []}
 use mathlib.Core.Option.{Option, some, none}
 use Prim.Native.Nat.{ℕ, zero, suc, _+_, _*_, _^_, _/_, _%_, _<_, _≤_}
 use native.Mathlib.Omega.{arith}
 use lib.Dec.{eqb, leb}
-use lib.ListN.{length, getD}
+use lib.ListN.{length}
 use borrow.Author.Tests.{eqb-true, eqb-false, le-leb, lt-leb}
 use Rattle.ascii.specs.Bytes.{pick}
 use Rattle.ascii.specs.Texts.{every}
@@ -36,7 +36,7 @@ shortRight packed name = pick (leb (length name) 8) (isNumber (shortIn packed (l
 unfoldable pub longRight : ℕ → List ℕ → Bool
 longRight packed name = pick (leb (length name) 8) true (isNumber (longIn packed (length name) (thirdOf name)) (featureOf name))
 
--- so no other name has them
+-- then no other name has that length and third byte
 module _ (packed len third : ℕ) where
   pub short-only : every (shortRight packed) names ≡ true → len ≤ 8 → OnlyNumber len third (shortIn packed len third)
   unfolding shortRight nameOf pick
@@ -76,4 +76,4 @@ none-below (suc k) n h = let a : k ≤ n = none-below k n (h .0) in go (eqb n k)
     go false t a = let d : (n ≡ k → ⊥) = eqb-false n k t in omega arith
 
 pub packed-none : (n : ℕ) (r : Packed) → featureCount ≤ n → r ≡ record { len = 0; third = 0; front = 0; back = 0 } → IsPacked n r
-packed-none n r h e = rw (e) (record { len = rw (name-none n h); third = rw (name-none n h); front = rw (name-none n h); back = rw (name-none n h) })
+packed-none n r h e = rw e (record { len = rw (name-none n h); third = rw (name-none n h); front = rw (name-none n h); back = rw (name-none n h) })

@@ -1,5 +1,5 @@
 -- Laws of texts in numbers: the bytes that two numbers tell. Assumes nothing.
-use mathlib.Core.Path.{_≡_, refl, sym}
+use mathlib.Core.Path.{_≡_, refl}
 use mathlib.Core.Bool.{Bool, true, false}
 use mathlib.Core.List.{List}
 use Prim.Native.Nat.{ℕ, zero, suc, _+_, _-_, _*_, _<_, _≤_, min}
@@ -24,7 +24,7 @@ low x y u v h g e = omega arith
 high : (x y u v : ℕ) → x < 4294967296 → y < 4294967296 → x + 4294967296 * u ≡ y + 4294967296 * v → u ≡ v
 high x y u v h g e = omega arith
 
--- every byte of a text is one
+-- every element of a text is below 256, as a byte is
 abbrev pub Bytes : List ℕ → Type 0
 Bytes s = (i : ℕ) → getD s i 0 < 256
 
@@ -44,27 +44,27 @@ module _ (s t : List ℕ) (bs : Bytes s) (bt : Bytes t) where
   window p i e h l = let u : p + (i - p) ≡ i = omega arith in rw u at (four-tells p (i - p) e (omega arith))
 
   -- a text of 4 to 16 bytes is told by its length and its two numbers
-  module _ (len : length s ≡ length t) (least : 4 ≤ length s) (most : length s ≤ 16) (front : frontOf s ≡ frontOf t) (back : backOf s ≡ backOf t) where
-    first : fourAt s 0 ≡ fourAt t 0
-    first = low _ _ _ _ (four-below s 0 bs) (four-below t 0 bt) front
+  module _ (len : length s ≡ length t) (from : 4 ≤ length s) (to : length s ≤ 16) (front : frontOf s ≡ frontOf t) (back : backOf s ≡ backOf t) where
+    four-1 : fourAt s 0 ≡ fourAt t 0
+    four-1 = low _ _ _ _ (four-below s 0 bs) (four-below t 0 bt) front
 
-    second : fourAt s (min 4 (length s - 4)) ≡ fourAt t (min 4 (length s - 4))
-    second = high _ _ _ _ (four-below s 0 bs) (four-below t 0 bt) (rw (← len) at front)
+    four-2 : fourAt s (min 4 (length s - 4)) ≡ fourAt t (min 4 (length s - 4))
+    four-2 = high _ _ _ _ (four-below s 0 bs) (four-below t 0 bt) (rw (← len) at front)
 
-    third : fourAt s (min 8 (length s - 4)) ≡ fourAt t (min 8 (length s - 4))
-    third = low _ _ _ _ (four-below s (min 8 (length s - 4)) bs) (four-below t (min 8 (length s - 4)) bt) (rw (← len) at back)
+    four-3 : fourAt s (min 8 (length s - 4)) ≡ fourAt t (min 8 (length s - 4))
+    four-3 = low _ _ _ _ (four-below s (min 8 (length s - 4)) bs) (four-below t (min 8 (length s - 4)) bt) (rw (← len) at back)
 
-    fourth : fourAt s (length s - 4) ≡ fourAt t (length s - 4)
-    fourth = high _ _ _ _ (four-below s (min 8 (length s - 4)) bs) (four-below t (min 8 (length s - 4)) bt) (rw (← len) at back)
+    four-4 : fourAt s (length s - 4) ≡ fourAt t (length s - 4)
+    four-4 = high _ _ _ _ (four-below s (min 8 (length s - 4)) bs) (four-below t (min 8 (length s - 4)) bt) (rw (← len) at back)
 
     byte-told : (i : ℕ) → i < length s → getD s i 0 ≡ getD t i 0
     byte-told i l = go (ltb i 4) (ltb i 8) (ltb i 12) refl refl refl
       where
         go : (a b c : Bool) → ltb i 4 ≡ a → ltb i 8 ≡ b → ltb i 12 ≡ c → getD s i 0 ≡ getD t i 0
-        go true b c x y z = let u : i < 4 = ltb-true i 4 x in window 0 i first (omega arith) (omega arith)
-        go false true c x y z = let u : 4 ≤ i = ltb-false i 4 x in let v : i < 8 = ltb-true i 8 y in window (min 4 (length s - 4)) i second (omega arith) (omega arith)
-        go false false true x y z = let u : 8 ≤ i = ltb-false i 8 y in let v : i < 12 = ltb-true i 12 z in window (min 8 (length s - 4)) i third (omega arith) (omega arith)
-        go false false false x y z = let u : 12 ≤ i = ltb-false i 12 z in window (length s - 4) i fourth (omega arith) (omega arith)
+        go true b c x y z = let u : i < 4 = ltb-true i 4 x in window 0 i four-1 (omega arith) (omega arith)
+        go false true c x y z = let u : 4 ≤ i = ltb-false i 4 x in let v : i < 8 = ltb-true i 8 y in window (min 4 (length s - 4)) i four-2 (omega arith) (omega arith)
+        go false false true x y z = let u : 8 ≤ i = ltb-false i 8 y in let v : i < 12 = ltb-true i 12 z in window (min 8 (length s - 4)) i four-3 (omega arith) (omega arith)
+        go false false false x y z = let u : 12 ≤ i = ltb-false i 12 z in window (length s - 4) i four-4 (omega arith) (omega arith)
 
     pub packed-same : s ≡ t
     packed-same = ext-getD 0 s t len byte-told

@@ -40,7 +40,7 @@ pub data LeftRow : Type 0 where
 abbrev leftRight : LeftRow → Bool
 leftRight (leaves s ns) = sameBytes (leftToCompare (text s)) ns
 
--- "camera" and every word of its length and third byte; "modals" and "popups" have its length, "scripts" and "forms" a third byte in common
+-- "camera" and every word of its length and third byte; "modals" and "popups" have its length; "scripts" and "forms" have one third byte; seventeen bytes and the third byte of "downloads-without-user-activation"
 left-right :
     every leftRight
     (leaves "camera" (0 ∷ [])
@@ -52,6 +52,7 @@ left-right :
     ∷ leaves "usb" (16 ∷ [])
     ∷ leaves "caxera" []
     ∷ leaves "cameras" []
+    ∷ leaves "xxwxxxxxxxxxxxxxx" []
     ∷ leaves "ca" []
     ∷ leaves "" []
     ∷ [])

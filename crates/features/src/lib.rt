@@ -194,33 +194,33 @@ fn four(s: &[u8], at: usize) -> u64
     wide(s[at]) + 256 * (wide(s[at + 1]) + 256 * (wide(s[at + 2]) + 256 * wide(s[at + 3])))
 }
 
-// The least of two.
-fn least(a: usize, b: usize) -> usize
+// The lesser of two.
+fn lesser(a: usize, b: usize) -> usize
     ensures { λ r. ⌜ r ≡ min a b ⌝ }
 {
     if a < b { a } else { b }
 }
 
-// The first bytes of a word, up to eight, as one number.
+// The first four bytes of a word, and the next four or, in one of less than eight, the last four.
 fn front(word: &[u8]) -> u64
     requires { ⌜ 4 ≤ length (now word) ⌝ }
     ensures { λ r. ⌜ r ≡ frontOf (now (word .entry)) ⌝ }
 {
-    let at = least(4, word.len() - 4);
+    let at = lesser(4, word.len() - 4);
     four(word, 0) + 4_294_967_296 * four(word, at)
 }
 
-// Its last bytes, up to eight.
+// The third four bytes or, in one of less than twelve, the last four; and the last four. With `front`, all bytes of 4 to 16.
 fn back(word: &[u8]) -> u64
     requires { ⌜ 4 ≤ length (now word) ⌝ }
     ensures { λ r. ⌜ r ≡ backOf (now (word .entry)) ⌝ }
 {
     let last = word.len() - 4;
-    let at = least(8, last);
+    let at = lesser(8, last);
     four(word, at) + 4_294_967_296 * four(word, last)
 }
 
-// A name in numbers: its length, its third byte, and its bytes, which for 4 to 16 bytes `front` and `back` tell.
+// A name in numbers: its length, its third byte, and its bytes, which `front` and `back` tell where it has 4 to 16.
 struct Packed {
     len: usize,
     third: u8,
@@ -361,13 +361,13 @@ fn packed_name(n: u32) -> Packed
     }
 }
 
-// The numbers of the names of up to 8 bytes, a byte each, by the remainder of length and third byte by 8.
+// The numbers of the names of up to 8 bytes, a byte each, by the remainder of the sum of length and third byte by 8.
 const SHORT_NUMBERS: u64 = 0x030c_100a_0007_0e09;
 
-// Those of the longer names, four bits each, by the remainder by 16.
+// Those of the longer names, four bits each, by the sum's remainder by 16.
 const LONG_NUMBERS: u64 = 0x0f60_0582_04b0_01d0;
 
-// The only number that a name with this length and this third byte may have.
+// The only number that a name with this length and this third byte may have; any number where no name has them.
 fn only_number(len: usize, third: u8) -> u32
     ensures { λ r. ⌜ OnlyNumber len third r ⌝ }
 {
@@ -403,29 +403,29 @@ pub fn left_to_compare(word: &[u8]) -> Left
     }
 }
 
-// Whether a word is a name of its length, byte for byte, in one pass.
-fn is_text(word: &[u8], name: &[u8]) -> bool
-    requires { ⌜ length (now word) ≡ length (now name) ⌝ }
-    ensures { λ r. ⌜ r ≡ sameBytes (now (word .entry)) (now (name .entry)) ⌝ }
+// Whether two texts of one length are the same bytes. All are compared: a way out at the first that differs costs more.
+fn same_bytes(a: &[u8], b: &[u8]) -> bool
+    requires { ⌜ length (now a) ≡ length (now b) ⌝ }
+    ensures { λ r. ⌜ r ≡ sameBytes (now (a .entry)) (now (b .entry)) ⌝ }
 {
     let mut same = true;
     let mut i: usize = 0;
-    while i < word.len() {
-        same = same & (word[i] == name[i]);
+    while i < a.len() {
+        same = same & (a[i] == b[i]);
         i += 1;
     }
     same
 }
 
 // Whether a word is the name that is left to compare with it.
-fn is_name(n: u32, word: &[u8]) -> bool
+fn is_named(n: u32, word: &[u8]) -> bool
     requires { ⌜ n ∷ [] ≡ leftToCompare (now word) ⌝ }
     ensures { λ r. ⌜ r ≡ sameBytes (now (word .entry)) (nameOf n) ⌝ }
 {
     if word.len() < 4 {
-        is_text(word, b"usb")
+        same_bytes(word, b"usb")
     } else if 16 < word.len() {
-        is_text(word, b"downloads-without-user-activation")
+        same_bytes(word, b"downloads-without-user-activation")
     } else {
         let name = packed_name(n);
         (front(word) == name.front) & (back(word) == name.back)
@@ -444,7 +444,7 @@ pub fn feature_of(word: &[u8]) -> Lookup
 {
     match left_to_compare(word) {
         Left::One(n) => {
-            if is_name(n, word) {
+            if is_named(n, word) {
                 Lookup::Known(n)
             } else {
                 Lookup::Unknown

@@ -1,4 +1,4 @@
--- `is_text` is right: at each place, the bytes so far and what is left are the same exactly if the texts are.
+-- `same_bytes` is right: at each place, the bytes so far and what is left are the same exactly if the texts are.
 use mathlib.Core.Path.{_≡_, refl}
 use mathlib.Core.Bool.{_&&_}
 use Prim.Native.Nat.{_≤_, _-_}
@@ -7,17 +7,17 @@ use native.Mathlib.Omega.{arith}
 use borrow.Author.Needs.{needs}
 use Rattle.ascii.specs.Texts.{sameBytes}
 use Rattle.features.proofs.Names.{byte-turn, text-end}
-use Rattle.features.proofs.is_text.Statement.{statement}
-use Rattle.features.proofs.is_text.Tie as tie
+use Rattle.features.proofs.same_bytes.Statement.{statement}
+use Rattle.features.proofs.same_bytes.Tie as tie
 
 abbrev Inv-loop : tie.InvT-loop
-Inv-loop word name same₀ i₀ same i = (i ≤ length word) × (same && sameBytes (drop i word) (drop i name) ≡ sameBytes word name)
+Inv-loop a b same₀ i₀ same i = (i ≤ length a) × (same && sameBytes (drop i a) (drop i b) ≡ sameBytes a b)
 
 abbrev μ-loop : tie.MeasureT-loop
-μ-loop word name same₀ i₀ same i = length word - i
+μ-loop a b same₀ i₀ same i = length a - i
 
-pub is-text-spec : {M : Type 1} → statement M
-is-text-spec =
+pub same-bytes-spec : {M : Type 1} → statement M
+same-bytes-spec =
     tie.close
     (tie.spec
     Inv-loop
