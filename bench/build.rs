@@ -7,8 +7,9 @@ fn main() {
         println!("cargo:rerun-if-changed={root}/../{folder}/staticlib/lib{name}.a");
     };
     if std::env::var("CARGO_FEATURE_NAMES").is_ok() {
-        link("target/names_before/target", "names_before");
-        link("target/names_now/target", "names_now");
+        for (folder, name) in [("before", "names_before"), ("before", "called_before"), ("now", "names_now"), ("now", "called_now")] {
+            link(&format!("target/names_{folder}/target"), name);
+        }
     } else {
         link("target", "speed_exports");
     }

@@ -1,4 +1,4 @@
-//! The lookup of a feature's name: the proved one, the one before R-2, and plain Rust's `match`, on the same words in one run.
+//! The lookup of a feature's name as it is and as it was before R-2 (both proved), and plain Rust's `match`, on the same words in one run.
 mod common;
 #[allow(dead_code)]
 mod plain;
@@ -7,12 +7,15 @@ use plain::NAMES;
 use std::hint::black_box;
 use std::time::Instant;
 
+// inlined in the exported function (`names`), and a function of its own, called by it (`called`)
 extern "C" {
     fn names_before(s: *const u8, n: usize) -> u32;
     fn names_now(s: *const u8, n: usize) -> u32;
+    fn called_before(s: *const u8, n: usize) -> u32;
+    fn called_now(s: *const u8, n: usize) -> u32;
 }
 
-/// Called through a pointer, as the two others are.
+/// Called through a pointer, as the others are.
 unsafe extern "C" fn by_match(s: *const u8, n: usize) -> u32 {
     match std::slice::from_raw_parts(s, n) {
         b"camera" => 0,
@@ -74,28 +77,29 @@ fn words(count: usize, mut next: impl FnMut(usize) -> Vec<u8>) -> Words {
 
 type Lookup = unsafe extern "C" fn(*const u8, usize) -> u32;
 
+const LOOKUPS: [Lookup; 5] = [names_before, names_now, called_before, called_now, by_match];
+
 fn time(kind: &str, mut w: Words, r: &mut Rng) {
-    let lookups: [Lookup; 3] = [names_before, names_now, by_match];
-    let orders = [[0, 1, 2], [2, 1, 0], [1, 2, 0], [0, 2, 1], [2, 0, 1], [1, 0, 2]];
-    let mut times = [vec![], vec![], vec![]];
-    for round in 0..300 {
-        // the words in a new order for each round, the same for the three, so that no branch is predicted from the last round
+    let mut times = [vec![], vec![], vec![], vec![], vec![]];
+    let mut order = [0, 1, 2, 3, 4];
+    for _ in 0..300 {
+        // the words in a new order for each round, the same for all lookups, so that no branch is predicted from the last round; the lookups in a new order too
         for i in (1..w.at.len()).rev() { let j = r.below(i + 1); w.at.swap(i, j); }
-        for k in orders[round % 6] {
-            let (text, lookup) = (w.text.as_ptr(), black_box(lookups[k]));
+        for i in (1..order.len()).rev() { let j = r.below(i + 1); order.swap(i, j); }
+        for k in order {
+            let (text, lookup) = (w.text.as_ptr(), black_box(LOOKUPS[k]));
             let t = Instant::now();
             for &(from, n) in &w.at { black_box(unsafe { lookup(black_box(text.add(from)), n) }); }
             times[k].push(t.elapsed().as_nanos() as f64 / w.at.len() as f64);
         }
     }
-    let [b, n, p] = times.map(median);
-    println!("names, {kind}: before {b:.1} ns, now {n:.1} ns, plain Rust {p:.1} ns; now / plain Rust {:.2}, now / before {:.2}", n / p, n / b);
+    let [b, n, cb, cn, p] = times.map(median);
+    println!("names, {kind}: plain Rust {p:.1} ns; inlined: before {b:.1}, now {n:.1}, now / plain Rust {:.2}; called: before {cb:.1}, now {cn:.1}, now / plain Rust {:.2}", n / p, cn / p);
 }
 
 fn same(w: &[u8]) {
-    let want = unsafe { by_match(w.as_ptr(), w.len()) };
-    assert_eq!(want, unsafe { names_now(w.as_ptr(), w.len()) }, "{w:?}");
-    assert_eq!(want, unsafe { names_before(w.as_ptr(), w.len()) }, "{w:?}");
+    let answers = LOOKUPS.map(|lookup| unsafe { lookup(w.as_ptr(), w.len()) });
+    assert!(answers.iter().all(|a| *a == answers[0]), "{w:?}: {answers:?}");
 }
 
 fn main() {

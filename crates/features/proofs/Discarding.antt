@@ -18,6 +18,7 @@ use Rattle.features.specs.Features.{features, featureCount, names, nameO
 use Rattle.features.specs.Discarding.{thirdOf, agree, leftFrom, leftToCompare, isAmong}
 use Rattle.features.specs.Answers.{leftIn}
 use Rattle.features.specs.declared.Left.{Left}
+use Rattle.features.proofs.Rules.{At, at-head, at-tail}
 use Rattle.features.proofs.Laws.{count}
 
 -- what it is to agree
@@ -80,27 +81,18 @@ among-from (x ∷ xs) k (suc i) word l e = rw (add-suc k i) (go (agree word x) (
     go false h = h
 
 -- and what is left agrees
-record LeftAt (xs : List (List ℕ)) (k : ℕ) (word : List ℕ) (n : ℕ) : Type 0 where
-  place : ℕ
-  sum : n ≡ k + place
-  below : place < length xs
-  agrees : agree word (getD xs place []) ≡ true
-
-left-at : (xs : List (List ℕ)) (k n : ℕ) (word : List ℕ) → isAmong n (leftFrom k word xs) ≡ true → LeftAt xs k word n
+left-at : (xs : List (List ℕ)) (k n : ℕ) (word : List ℕ) → isAmong n (leftFrom k word xs) ≡ true → At (λ x. agree word x ≡ true) xs k n
 unfolding leftFrom isAmong pick
 left-at [] k n word e = clash cc
 left-at (x ∷ xs) k n word e = go (agree word x) refl e (λ f. left-at xs (suc k) n word f)
   where
-    later : LeftAt xs (suc k) word n → LeftAt (x ∷ xs) k word n
-    later s = record { place = suc (s .place); sum = omega arith; below = omega arith; agrees = s .agrees }
-
-    go : (b : Bool) → agree word x ≡ b → isAmong n (pick b (k ∷ leftFrom (suc k) word xs) (leftFrom (suc k) word xs)) ≡ true → (isAmong n (leftFrom (suc k) word xs) ≡ true → LeftAt xs (suc k) word n) → LeftAt (x ∷ xs) k word n
+    go : (b : Bool) → agree word x ≡ b → isAmong n (pick b (k ∷ leftFrom (suc k) word xs) (leftFrom (suc k) word xs)) ≡ true → (isAmong n (leftFrom (suc k) word xs) ≡ true → At (λ x. agree word x ≡ true) xs (suc k) n) → At (λ x. agree word x ≡ true) (x ∷ xs) k n
     go true t e ih =
         ⊎-elim
-        (λ u. let v : n ≡ k = eqb-true n k u in record { place = 0; sum = omega arith; below = omega arith; agrees = t })
-        (λ u. later (ih u))
+        (λ u. at-head (λ x. agree word x ≡ true) x xs k n (eqb-true n k u) t)
+        (λ u. at-tail (λ x. agree word x ≡ true) x xs k n (ih u))
         (or-cases (eqb n k) (isAmong n (leftFrom (suc k) word xs)) e)
-    go false t e ih = later (ih e)
+    go false t e ih = at-tail (λ x. agree word x ≡ true) x xs k n (ih e)
 
 -- R-2: "by length and one byte alone": words of one length and one third byte are left the same names
 same-from : (xs : List (List ℕ)) (k : ℕ) (a b : List ℕ) → length a ≡ length b → thirdOf a ≡ thirdOf b → leftFrom k a xs ≡ leftFrom k b xs
@@ -132,11 +124,11 @@ module _ (word : List ℕ) where
   -- a name that is left is a feature's, and agrees
   pub left-below : (n : ℕ) → isAmong n (leftToCompare word) ≡ true → n < featureCount
   unfolding leftToCompare
-  left-below n e = let s : LeftAt names 0 word n = left-at names 0 n word e in omega (arith, count)
+  left-below n e = let s : At (λ x. agree word x ≡ true) names 0 n = left-at names 0 n word e in omega (arith, count)
 
   pub left-agrees : (n : ℕ) → isAmong n (leftToCompare word) ≡ true → agree word (nameOf n) ≡ true
   unfolding leftToCompare nameOf
-  left-agrees n e = let s : LeftAt names 0 word n = left-at names 0 n word e in let u : s .place ≡ n = omega arith in rw u at (s .agrees)
+  left-agrees n e = let s : At (λ x. agree word x ≡ true) names 0 n = left-at names 0 n word e in let u : s .place ≡ n = omega arith in rw u at (s .holds)
 
   -- where no name agrees, and where one does
   pub none-left : ((n : ℕ) → n < featureCount → agree word (nameOf n) ≡ true → ⊥) → [] ≡ leftToCompare word
@@ -152,7 +144,7 @@ module _ (word : List ℕ) where
       go (x ∷ []) h f = rw (eqb-true n x (rw (or-false (eqb n x)) at f))
       go (x ∷ y ∷ s) h f = absurd (not-suc-le-zero (le-of-suc-le-suc h))
 
--- R-2's two statements of the answer of `left_to_compare`, which says what the definition says. That it has at most one number its type tells already; that no second name agrees is the definition's law.
+-- R-2's two statements of the answer of `left_to_compare`. The type `Left` allows one number at most; that no second name agrees is `at-most-one`.
 module _ (word : List ℕ) (r : Left) (is : leftIn r ≡ leftToCompare word) where
   pub answer-at-most-one : length (leftIn r) ≤ 1
   answer-at-most-one = rw is (at-most-one word)

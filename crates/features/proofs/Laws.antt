@@ -1,9 +1,9 @@
 -- Laws of the features for the crates above. Assumes nothing.
 use mathlib.Core.Path.{_≡_, refl}
 use mathlib.Core.Bool.{Bool, true, false}
-use mathlib.Core.List.{List, [], _++_}
+use mathlib.Core.List.{List, []}
 use mathlib.Core.Option.{some, none}
-use Prim.Native.Nat.{ℕ, _+_, _-_, _<_, _≤_}
+use Prim.Native.Nat.{ℕ, _<_, _≤_}
 use native.Mathlib.Nat.{zero-add, not-suc-le-zero}
 use native.Mathlib.Omega.{arith}
 use lib.ListN.{length, getD, List·getD-eq-default}
@@ -11,15 +11,15 @@ use lib.Dec.{leb, ltb}
 use borrow.Author.Tests.{leb-true, ltb-true, ltb-false}
 use Rattle.ascii.proofs.Clash.{clash}
 use Rattle.ascii.specs.Bytes.{pick, isKeyStart, isKeyByte}
-use Rattle.ascii.specs.Reading.{headOf, headIs, runOf, past}
+use Rattle.ascii.specs.Reading.{headOf, headIs}
 use Rattle.ascii.specs.Texts.{every, sameBy, sameBytes}
-use Rattle.ascii.proofs.Texts.{every-at, every-run, every-past, bytes-same}
+use Rattle.ascii.proofs.Texts.{every-at, bytes-same}
 use Rattle.ascii.proofs.Bytes.{and-left, and-right}
 use Rattle.features.specs.Features.{Default, features, featureCount, rowDefault, names, nameOf, defaultOf, placeFrom, featureOf, precedes, ascending, isKey}
 use Rattle.features.specs.Answers.{nameBytes, numberIn}
 use Rattle.features.specs.declared.Lookup.{Lookup}
 use Rattle.features.specs.declared.Lookup.the-variants.{Known}
-use Rattle.features.proofs.Rules.{noRow, rows, ascending-at, found-at, Stands, stands, map-some, map-none}
+use Rattle.features.proofs.Rules.{noRow, rows, ascending-at, found-at, At, stands, map-some, map-none}
 
 -- there are seventeen
 pub count : length names ≡ featureCount
@@ -56,11 +56,11 @@ other-name i j h g d = go (sameBytes (nameOf i) (nameOf j)) refl
 -- what is found has that name, and is one of the seventeen
 pub found-name : (word : List ℕ) (n : ℕ) → featureOf word ≡ some n → word ≡ nameOf n
 unfolding nameOf featureOf
-found-name word n e = let s : Stands names 0 word n = stands names 0 n word e in let u : s .place ≡ n = omega arith in rw u at (s .is)
+found-name word n e = let s : At (λ x. word ≡ x) names 0 n = stands names 0 n word e in let u : s .place ≡ n = omega arith in rw u at (s .holds)
 
 pub found-below : (word : List ℕ) (n : ℕ) → featureOf word ≡ some n → n < featureCount
 unfolding featureOf
-found-below word n e = let s : Stands names 0 word n = stands names 0 n word e in omega (arith, count)
+found-below word n e = let s : At (λ x. word ≡ x) names 0 n = stands names 0 n word e in omega (arith, count)
 
 -- an unknown word is no feature's name
 pub unknown : (word : List ℕ) (n : ℕ) → featureOf word ≡ none → n < featureCount → word ≡ nameOf n → ⊥
@@ -89,11 +89,7 @@ pub name-three : (n : ℕ) → n < featureCount → 3 ≤ length (nameOf n)
 unfolding nameOf
 name-three n h = leb-true 3 (length (nameOf n)) (every-at (λ s. leb 3 (length s)) [] names n names-three (omega (arith, count)))
 
--- so none is empty
-pub name-some : (n : ℕ) → n < featureCount → 0 < length (nameOf n)
-name-some n h = omega (arith, name-three n h)
-
--- only a feature's number has a name that isn't
+-- only a feature's number has a name that isn't empty
 pub named-below : (n : ℕ) → 0 < length (nameOf n) → n < featureCount
 named-below n h = go (ltb n featureCount) refl
   where
@@ -135,16 +131,6 @@ name-starts n h = and-left (headIs isKeyStart (nameOf n)) (every isKeyByte (name
 pub name-bytes : (n : ℕ) → n < featureCount → every isKeyByte (nameOf n) ≡ true
 unfolding isKey
 name-bytes n h = and-right (headIs isKeyStart (nameOf n)) (every isKeyByte (nameOf n)) (name-key n h)
-
-pub name-byte : (n i : ℕ) → n < featureCount → i < length (nameOf n) → isKeyByte (getD (nameOf n) i 0) ≡ true
-name-byte n i h g = every-at isKeyByte 0 (nameOf n) i (name-bytes n h) g
-
--- so reading key bytes reads a name, up to a byte that is none
-pub name-run : (n : ℕ) (rest : List ℕ) → n < featureCount → isKeyByte (headOf rest) ≡ false → runOf isKeyByte (nameOf n ++ rest) ≡ nameOf n
-name-run n rest h e = every-run isKeyByte (nameOf n) rest (name-bytes n h) e
-
-pub name-past : (n : ℕ) (rest : List ℕ) → n < featureCount → isKeyByte (headOf rest) ≡ false → past isKeyByte (nameOf n ++ rest) ≡ rest
-name-past n rest h e = every-past isKeyByte (nameOf n) rest (name-bytes n h) e
 
 -- an empty word is no name
 pub no-feature : featureOf [] ≡ none

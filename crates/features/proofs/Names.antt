@@ -124,11 +124,11 @@ module _ (word : List ℕ) (n : ℕ) (left : n ∷ [] ≡ leftToCompare word) wh
   one-length : length word ≡ length (nameOf n)
   one-length = agree-length word (nameOf n) (left-agrees word n (sym (among n) ∙ eq-eqb n n refl))
 
-  pub short-name : length word < 4 → nameOf n ≡ shortestName
-  short-name h = all-but (λ s. leb 4 (length s)) shortestName shortest n one-below (lt-leb 4 (length (nameOf n)) (rw one-length at h))
+  pub under-four : length word < 4 → nameOf n ≡ shortestName
+  under-four h = all-but (λ s. leb 4 (length s)) shortestName shortest n one-below (lt-leb 4 (length (nameOf n)) (rw one-length at h))
 
-  pub long-name : 16 < length word → nameOf n ≡ longestName
-  long-name h = all-but (λ s. leb (length s) 16) longestName longest n one-below (lt-leb (length (nameOf n)) 16 (rw one-length at h))
+  pub over-sixteen : 16 < length word → nameOf n ≡ longestName
+  over-sixteen h = all-but (λ s. leb (length s) 16) longestName longest n one-below (lt-leb (length (nameOf n)) 16 (rw one-length at h))
 
   module _ (t : List ℕ) (is : nameOf n ≡ t) where
     pub text-length : length word ≡ length t

@@ -2,21 +2,20 @@
 use mathlib.Core.Path.{_≡_, refl}
 use mathlib.Core.Bool.{Bool, true, false}
 use mathlib.Core.List.{List, []}
-use mathlib.Core.Option.{Option, some, none}
 use Prim.Native.Nat.{ℕ, zero, suc, _+_, _*_, _^_, _/_, _%_, _<_, _≤_}
 use native.Mathlib.Omega.{arith}
 use lib.Dec.{eqb, leb}
 use lib.ListN.{length}
 use borrow.Author.Tests.{eqb-true, eqb-false, le-leb, lt-leb}
 use Rattle.ascii.specs.Bytes.{pick}
-use Rattle.ascii.specs.Texts.{every}
-use Rattle.ascii.proofs.Texts.{every-at}
-use Rattle.features.specs.Features.{featureCount, names, nameOf, featureOf}
+use Rattle.ascii.specs.Texts.{every, sameBytes}
+use Rattle.ascii.proofs.Texts.{every-at, bytes-same}
+use Rattle.features.specs.Features.{featureCount, names, nameOf}
 use Rattle.features.specs.Discarding.{thirdOf}
 use Rattle.features.specs.Packing.{frontOf, backOf}
 use Rattle.features.specs.Answers.{IsPacked, OnlyNumber}
 use Rattle.features.specs.declared.Packed.{Packed}
-use Rattle.features.proofs.Laws.{count, found, name-none}
+use Rattle.features.proofs.Laws.{count, distinct, name-none, name-three, named-below}
 
 -- the number of a short name in a number of eight bytes, and of a long one in a number of sixteen half bytes
 abbrev pub shortIn : ℕ → ℕ → ℕ → ℕ
@@ -25,16 +24,19 @@ shortIn packed len third = packed / 2 ^ (8 * ((len % 16 + third) % 8)) % 256
 abbrev pub longIn : ℕ → ℕ → ℕ → ℕ
 longIn packed len third = packed / 2 ^ (4 * ((len % 16 + third) % 16)) % 16
 
--- whether a name's number is found by its length and third byte
-abbrev isNumber : ℕ → Option ℕ → Bool
-isNumber k (some n) = eqb n k
-isNumber k none = false
-
+-- whether a name has the number that its length and third byte give
 unfoldable pub shortRight : ℕ → List ℕ → Bool
-shortRight packed name = pick (leb (length name) 8) (isNumber (shortIn packed (length name) (thirdOf name)) (featureOf name)) true
+shortRight packed name = pick (leb (length name) 8) (sameBytes name (nameOf (shortIn packed (length name) (thirdOf name)))) true
 
 unfoldable pub longRight : ℕ → List ℕ → Bool
-longRight packed name = pick (leb (length name) 8) true (isNumber (longIn packed (length name) (thirdOf name)) (featureOf name))
+longRight packed name = pick (leb (length name) 8) true (sameBytes name (nameOf (longIn packed (length name) (thirdOf name))))
+
+-- two numbers of one name are the same
+one-number : (n k : ℕ) → n < featureCount → sameBytes (nameOf n) (nameOf k) ≡ true → n ≡ k
+one-number n k l e =
+    let u : nameOf n ≡ nameOf k = bytes-same (nameOf n) (nameOf k) e in
+    let h : 3 ≤ length (nameOf k) = rw u at (name-three n l) in
+    distinct n k l (named-below k (omega arith)) u
 
 -- then no other name has that length and third byte
 module _ (packed len third : ℕ) where
@@ -45,7 +47,7 @@ module _ (packed len third : ℕ) where
         only =
             λ n l u v.
             let a : shortRight packed (nameOf n) ≡ true = every-at (shortRight packed) [] names n e (omega (arith, count)) in
-            eqb-true n (shortIn packed len third) (rw (found n l, u, v, le-leb len 8 h) at a);
+            one-number n (shortIn packed len third) l (rw (u, v, le-leb len 8 h) at a);
       }
 
   pub long-only : every (longRight packed) names ≡ true → 8 < len → OnlyNumber len third (longIn packed len third)
@@ -55,14 +57,14 @@ module _ (packed len third : ℕ) where
         only =
             λ n l u v.
             let a : longRight packed (nameOf n) ≡ true = every-at (longRight packed) [] names n e (omega (arith, count)) in
-            eqb-true n (longIn packed len third) (rw (found n l, u, v, lt-leb len 8 h) at a);
+            one-number n (longIn packed len third) l (rw (u, v, lt-leb len 8 h) at a);
       }
 
--- what is said of one number holds of a number that is it
+-- an arm is for the number that it matches
 pub packed-at : (n k : ℕ) (r : Packed) → n ≡ k → r .len ≡ length (nameOf k) → r .third ≡ thirdOf (nameOf k) → r .front ≡ frontOf (nameOf k) → r .back ≡ backOf (nameOf k) → IsPacked n r
 packed-at n k r e a b f g = rw e (record { len = a; third = b; front = f; back = g })
 
--- a number that is none of the first ones
+-- a number that is none of 0 to k - 1 is k or more
 abbrev pub NoneBelow : ℕ → ℕ → Type 0
 NoneBelow zero n = Unit
 NoneBelow (suc k) n = NoneBelow k n × (n ≡ k → ⊥)

@@ -1,7 +1,7 @@
 -- From what is computed over the whole list to the rule at each entry. Assumes nothing.
 use mathlib.Core.Path.{_≡_, refl}
 use mathlib.Core.Bool.{Bool, true, false}
-use mathlib.Core.List.{List, [], _∷_, _++_, map}
+use mathlib.Core.List.{List, [], _∷_, map}
 use mathlib.Core.Option.{some, none}
 use Prim.Native.Nat.{ℕ, zero, suc, _+_, _-_, _<_, _≤_}
 use native.Mathlib.Nat.{add-zero, add-suc, suc-add, le-of-suc-le-suc, not-suc-le-zero}
@@ -12,7 +12,6 @@ use borrow.Author.Tests.{eq-eqb}
 use Rattle.ascii.proofs.Clash.{clash}
 use Rattle.ascii.specs.Bytes.{pick}
 use Rattle.ascii.specs.Texts.{every, sameBytes}
-use Rattle.ascii.specs.Reading.{headOf, runOf, past}
 use Rattle.ascii.proofs.Texts.{every-at, bytes-same, same-bytes}
 use Rattle.ascii.proofs.Bytes.{and-left, and-right}
 use Rattle.features.specs.Features.{Row, features, featureCount, precedes, ascending, placeFrom}
@@ -48,21 +47,28 @@ found-at (x ∷ xs) k (suc i) e h =
     go true t later rest = absurd (let u : getD xs i [] ≡ x = bytes-same (getD xs i []) x t in clash (cc (not-precedes x)))
     go false t later rest = rw (add-suc k i, ← suc-add k i) rest
 
--- what is found at a place stands there
-pub record Stands (xs : List (List ℕ)) (k : ℕ) (word : List ℕ) (n : ℕ) : Type 0 where
+-- at a place of a list, counted from a number, stands one of which something holds
+pub record At (P : List ℕ → Type 0) (xs : List (List ℕ)) (k n : ℕ) : Type 0 where
   pub place : ℕ
   pub sum : n ≡ k + place
   pub below : place < length xs
-  pub is : word ≡ getD xs place []
+  pub holds : P (getD xs place [])
 
-pub stands : (xs : List (List ℕ)) (k n : ℕ) (word : List ℕ) → placeFrom k word xs ≡ some n → Stands xs k word n
+pub at-head : (P : List ℕ → Type 0) (x : List ℕ) (xs : List (List ℕ)) (k n : ℕ) → n ≡ k → P x → At P (x ∷ xs) k n
+at-head P x xs k n e p = record { place = 0; sum = omega arith; below = omega arith; holds = p }
+
+pub at-tail : (P : List ℕ → Type 0) (x : List ℕ) (xs : List (List ℕ)) (k n : ℕ) → At P xs (suc k) n → At P (x ∷ xs) k n
+at-tail P x xs k n s = record { place = suc (s .place); sum = omega arith; below = omega arith; holds = s .holds }
+
+-- what is found at a place stands there
+pub stands : (xs : List (List ℕ)) (k n : ℕ) (word : List ℕ) → placeFrom k word xs ≡ some n → At (λ x. word ≡ x) xs k n
 unfolding placeFrom pick
 stands [] k n word e = clash cc
 stands (x ∷ xs) k n word e = go (sameBytes word x) refl e (λ h. stands xs (suc k) n word h)
   where
-    go : (b : Bool) → sameBytes word x ≡ b → pick b (some k) (placeFrom (suc k) word xs) ≡ some n → (placeFrom (suc k) word xs ≡ some n → Stands xs (suc k) word n) → Stands (x ∷ xs) k word n
-    go true t h ih = let u : k ≡ n = cc in record { place = 0; sum = omega arith; below = omega arith; is = bytes-same word x t }
-    go false t h ih = let s : Stands xs (suc k) word n = ih h in record { place = suc (s .place); sum = omega arith; below = omega arith; is = s .is }
+    go : (b : Bool) → sameBytes word x ≡ b → pick b (some k) (placeFrom (suc k) word xs) ≡ some n → (placeFrom (suc k) word xs ≡ some n → At (λ x. word ≡ x) xs (suc k) n) → At (λ x. word ≡ x) (x ∷ xs) k n
+    go true t h ih = let u : n ≡ k = cc in at-head (λ x. word ≡ x) x xs k n u (bytes-same word x t)
+    go false t h ih = at-tail (λ x. word ≡ x) x xs k n (ih h)
 
 -- the rows of the features
 abbrev pub noRow : Row

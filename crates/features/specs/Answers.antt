@@ -1,4 +1,4 @@
--- What the code's answers say, in document 01's terms.
+-- What the code's answers say, in the terms of documents 01 and 02.
 use Prim.Native.Nat.{ℕ, _-_, _<_, _≤_}
 use mathlib.Core.Path.{_≡_}
 use mathlib.Core.List.{List, [], _∷_, _++_}

@@ -40,7 +40,7 @@ pub data LeftRow : Type 0 where
 abbrev leftRight : LeftRow → Bool
 leftRight (leaves s ns) = sameBytes (leftToCompare (text s)) ns
 
--- "camera" and every word of its length and third byte; "modals" and "popups" have its length; "scripts" and "forms" have one third byte; seventeen bytes and the third byte of "downloads-without-user-activation"
+-- "camera", and another word of its length and third byte; "modals" and "popups" have its length; "forms" and "scripts" have one third byte; seventeen bytes with the third byte of a name of thirty-three, one length modulo 16
 left-right :
     every leftRight
     (leaves "camera" (0 ∷ [])

@@ -186,7 +186,7 @@ fn wide(b: u8) -> u64
     b as u64
 }
 
-// Four bytes as one number, the first byte the least; the compiler makes one load of it.
+// Four bytes as one number, little-endian; the compiler makes one load of it.
 fn four(s: &[u8], at: usize) -> u64
     requires { ⌜ at + 4 ≤ length (now s) ⌝ }
     ensures { λ r. ⌜ IsFour (now (s .entry)) at r ⌝ }
@@ -201,7 +201,7 @@ fn lesser(a: usize, b: usize) -> usize
     if a < b { a } else { b }
 }
 
-// The first four bytes of a word, and the next four or, in one of less than eight, the last four.
+// The first four bytes of a word, and the next four or, in a word of fewer than eight, the last four.
 fn front(word: &[u8]) -> u64
     requires { ⌜ 4 ≤ length (now word) ⌝ }
     ensures { λ r. ⌜ r ≡ frontOf (now (word .entry)) ⌝ }
@@ -210,7 +210,7 @@ fn front(word: &[u8]) -> u64
     four(word, 0) + 4_294_967_296 * four(word, at)
 }
 
-// The third four bytes or, in one of less than twelve, the last four; and the last four. With `front`, all bytes of 4 to 16.
+// The third four bytes or, in a word of fewer than twelve, the last four; and the last four. With `front`: every byte of a word of 4 to 16.
 fn back(word: &[u8]) -> u64
     requires { ⌜ 4 ≤ length (now word) ⌝ }
     ensures { λ r. ⌜ r ≡ backOf (now (word .entry)) ⌝ }
@@ -220,7 +220,7 @@ fn back(word: &[u8]) -> u64
     four(word, at) + 4_294_967_296 * four(word, last)
 }
 
-// A name in numbers: its length, its third byte, and its bytes, which `front` and `back` tell where it has 4 to 16.
+// A name in numbers: its length, its third byte, and `front` and `back`, all its bytes if it has 4 to 16.
 struct Packed {
     len: usize,
     third: u8,
@@ -228,7 +228,7 @@ struct Packed {
     back: u64,
 }
 
-// The names in numbers; all 0 for a number over 16. The compiler makes tables of it that stand beside the code.
+// The names in numbers; all 0 for a number over 16. The compiler makes constant tables in read-only data of it.
 fn packed_name(n: u32) -> Packed
     ensures { λ r. ⌜ IsPacked n r ⌝ }
 {
@@ -361,17 +361,17 @@ fn packed_name(n: u32) -> Packed
     }
 }
 
-// The numbers of the names of up to 8 bytes, a byte each, by the remainder of the sum of length and third byte by 8.
+// The numbers of the names of up to 8 bytes, a byte each, by the sum of length and third byte modulo 8.
 const SHORT_NUMBERS: u64 = 0x030c_100a_0007_0e09;
 
-// Those of the longer names, four bits each, by the sum's remainder by 16.
+// Those of the longer names, four bits each, by that sum modulo 16.
 const LONG_NUMBERS: u64 = 0x0f60_0582_04b0_01d0;
 
 // The only number that a name with this length and this third byte may have; any number where no name has them.
 fn only_number(len: usize, third: u8) -> u32
     ensures { λ r. ⌜ OnlyNumber len third r ⌝ }
 {
-    let sum = len % 16 + third as usize;
+    let sum = len % 16 + third as usize; // `% 16` keeps the sum small and changes neither remainder
     if len <= 8 {
         ((SHORT_NUMBERS >> (8 * (sum % 8))) % 256) as u32
     } else {
@@ -403,7 +403,7 @@ pub fn left_to_compare(word: &[u8]) -> Left
     }
 }
 
-// Whether two texts of one length are the same bytes. All are compared: a way out at the first that differs costs more.
+// Whether two texts of one length are the same bytes. All are compared: to leave at the first difference was slower.
 fn same_bytes(a: &[u8], b: &[u8]) -> bool
     requires { ⌜ length (now a) ≡ length (now b) ⌝ }
     ensures { λ r. ⌜ r ≡ sameBytes (now (a .entry)) (now (b .entry)) ⌝ }

@@ -2,7 +2,7 @@
 use native.Mathlib.Omega.{arith}
 use borrow.Author.Needs.{needs}
 use Rattle.features.proofs.Packing.{Bytes}
-use Rattle.features.proofs.Names.{short-name, long-name, text-length, text-test, packed-test}
+use Rattle.features.proofs.Names.{under-four, over-sixteen, text-length, text-test, packed-test}
 use Rattle.features.proofs.is_named.Statement.{statement}
 use Rattle.features.proofs.is_named.Tie as tie
 
@@ -11,14 +11,14 @@ is-named-spec =
     tie.close
     (tie.spec
     (λ c. search needs)
-    (λ c κs. search (text-length, short-name))
+    (λ c κs. search (text-length, under-four))
     (λ c. search needs)
-    (λ c κs. search (text-length, long-name))
+    (λ c κs. search (text-length, over-sixteen))
     (λ c κs. search needs)
     (λ c κs. search needs)
     (λ c κs. search needs)
-    (λ c. search (text-test, short-name))
-    (λ c. search (text-test, long-name))
+    (λ c. search (text-test, under-four))
+    (λ c. search (text-test, over-sixteen))
     (λ c.
     let start = c .before .before .before .before .before .before .before in
     let bytes : Bytes (start .before .args .word .now) = λ i. omega (arith, start .shared-slice-known .given i) in
