@@ -125,7 +125,7 @@ fn main() {
     compared.iter().for_each(|w| same(w));
     println!("names: {} words, no answer differs", compared.len());
     let count = 6144;
-    let mut s = Rng(5);
+    let mut s = Rng(std::env::args().nth(1).map_or(5, |seed| seed.parse().expect("a seed is a number")));
     time("mix", words(count, |i| match i % 3 { 0 => known(&mut s), 1 => near(&mut s), _ => unknown(&mut s) }), &mut r);
     time("known names", words(count, |_| known(&mut s)), &mut r);
     time("near misses", words(count, |_| near(&mut s)), &mut r);
