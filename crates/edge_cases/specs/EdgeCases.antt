@@ -122,8 +122,8 @@ rows =
     ∷ notAdmitted "https://example.com" "https://example.com:444"
     -- "`HTTPS://Example.COM:0443` admits https://example.com."
     ∷ admitted "HTTPS://Example.COM:0443" "https://example.com"
-    -- "`http://example.com` against https://example.com: no."
-    ∷ notAdmitted "http://example.com" "https://example.com"
+    -- "`http://example.com` against https://example.com: no."; R-3 of 02: "The marked http case turns to yes."
+    ∷ admitted "http://example.com" "https://example.com"
     -- "`camera=(), camera=1`: camera undeclared. `camera=("junk")`: declared, admits none."
     ∷ undeclared "camera=(), camera=1" camera
     ∷ admitsNone "camera=(\"junk\")" camera

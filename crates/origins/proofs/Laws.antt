@@ -23,8 +23,8 @@ use Rattle.origins.specs.Origins.Origin.{tuple, opaque, fresh}
 use Rattle.origins.specs.Origins.OriginSaid.{saysEmpty, saysNull, saysTuple}
 use Rattle.origins.specs.Expressions.{HostPart, SourceExpression, expressionOf}
 use Rattle.origins.specs.Expressions.HostPart.{noHost, anyHost, exactHost, subdomainsOf}
-use Rattle.origins.specs.Matching.{sameScheme, endsIn, portAdmits, hostAdmits, admitsTuple, admits, sameTuple, sameOrigin}
-use Rattle.origins.specs.NormalForms.{GoodPort, GoodHost, GoodExpression, GoodOrigin, portText, originText, originBytes, normalPort, normal, normalForm, expressionText, sameHost, samePort, sameExpression}
+use Rattle.origins.specs.Matching.{sameScheme, schemeAdmits, endsIn, portAdmits, hostAdmits, admitsTuple, admits, sameTuple, sameOrigin}
+use Rattle.origins.specs.NormalForms.{GoodPort, GoodHost, GoodExpression, GoodOrigin, portText, originText, originBytes, isDropped, normalPort, normal, normalForm, expressionText, sameHost, samePort, sameExpression}
 use Rattle.origins.specs.Answers.{tupleRange, tupleIn}
 use Rattle.origins.specs.declared.Scheme.{Scheme}
 use Rattle.origins.specs.declared.Scheme.the-variants.{Http, Https}
@@ -51,7 +51,7 @@ record PortSaid (k : Scheme) (m : List ℕ) (n : ℕ) : Type 0 where
   most : n ≤ lastPort
   short : length m ≤ 1 + portDigits
 
-default-most : (k : Scheme) → defaultPort k ≤ lastPort
+pub default-most : (k : Scheme) → defaultPort k ≤ lastPort
 default-most Http = omega arith
 default-most Https = omega arith
 
@@ -210,32 +210,42 @@ before-ends b t h =
     let n : length (b ++ t) ≡ length b + length t = length-append b t in
     rw (lt-ltb (length t) (length (b ++ t)) (omega arith), drop-at b t (length (b ++ t) - length t) (omega arith)) (same-bytes t)
 
--- the default port dropped: the same origins are admitted
-port-normal : (k : Scheme) (p : PortPart) (n : ℕ) → portAdmits (normalPort k p) k n ≡ portAdmits p k n
+-- a port is dropped exactly if it is the default of every scheme that is admitted: then it says no more than none
+pub dropped-default : (k j : Scheme) (n : ℕ) → isDropped k n ≡ true → schemeAdmits k j ≡ true → n ≡ defaultPort j
+dropped-default Http j n e a = clash cc
+dropped-default Https Http n e a = clash cc
+dropped-default Https Https n e a = eqb-true n (defaultPort Https) e
+
+pub default-dropped : (k : Scheme) (n : ℕ) → ((j : Scheme) → schemeAdmits k j ≡ true → n ≡ defaultPort j) → isDropped k n ≡ true
+default-dropped Http n e = absurd (omega (arith, e Http refl, e Https refl))
+default-dropped Https n e = eq-eqb n (defaultPort Https) (e Https refl)
+
+-- so the same origins are admitted without it
+port-normal : (k j : Scheme) (p : PortPart) (n : ℕ) → schemeAdmits k j ≡ true → portAdmits (normalPort k p) j n ≡ portAdmits p j n
 unfolding portAdmits normalPort
-port-normal k Default n = refl
-port-normal k Any n = refl
-port-normal k (Number m) n = go (eqb m (defaultPort k)) refl
+port-normal k j Default n a = refl
+port-normal k j Any n a = refl
+port-normal k j (Number m) n a = go (isDropped k m) refl
   where
-    go : (b : Bool) → eqb m (defaultPort k) ≡ b → portAdmits (pick b Default (Number m)) k n ≡ eqb n m
-    go true e = unfold pick portAdmits in rw (eqb-true m (defaultPort k) e)
+    go : (b : Bool) → isDropped k m ≡ b → portAdmits (pick b Default (Number m)) j n ≡ eqb n m
+    go true e = unfold pick portAdmits in rw (dropped-default k j m e a)
     go false e = unfold pick portAdmits in refl
 
-host-normal : (k : Scheme) (x : HostPart) (p : PortPart) (o : TupleOrigin) → o .scheme ≡ k → hostAdmits x (normalPort k p) o ≡ hostAdmits x p o
+host-normal : (k : Scheme) (x : HostPart) (p : PortPart) (o : TupleOrigin) → schemeAdmits k (o .scheme) ≡ true → hostAdmits x (normalPort k p) o ≡ hostAdmits x p o
 unfolding hostAdmits
-host-normal k noHost p o e = refl
-host-normal k anyHost p o e = rw e (port-normal k p (o .port))
-host-normal k (exactHost h) p o e = rw (e, port-normal k p (o .port))
-host-normal k (subdomainsOf h) p o e = rw (e, port-normal k p (o .port))
+host-normal k noHost p o a = refl
+host-normal k anyHost p o a = port-normal k (o .scheme) p (o .port) a
+host-normal k (exactHost h) p o a = rw (port-normal k (o .scheme) p (o .port) a)
+host-normal k (subdomainsOf h) p o a = rw (port-normal k (o .scheme) p (o .port) a)
 
-tuple-normal : (e : SourceExpression) (o : TupleOrigin) (b : Bool) → sameScheme (e .scheme) (o .scheme) ≡ b → b && hostAdmits (e .host) (normalPort (e .scheme) (e .port)) o ≡ b && hostAdmits (e .host) (e .port) o
-tuple-normal e o true s = host-normal (e .scheme) (e .host) (e .port) o (sym (scheme-is (e .scheme) (o .scheme) s))
-tuple-normal e o false s = refl
+tuple-normal : (e : SourceExpression) (o : TupleOrigin) (b : Bool) → schemeAdmits (e .scheme) (o .scheme) ≡ b → b && hostAdmits (e .host) (normalPort (e .scheme) (e .port)) o ≡ b && hostAdmits (e .host) (e .port) o
+tuple-normal e o true a = host-normal (e .scheme) (e .host) (e .port) o a
+tuple-normal e o false a = refl
 
 -- an expression and its normal form admit the same origins
 pub normal-admits : (e : SourceExpression) (o : Origin) → admits (normal e) o ≡ admits e o
 unfolding admits admitsTuple normal
-normal-admits e (tuple o) = tuple-normal e o (sameScheme (e .scheme) (o .scheme)) refl
+normal-admits e (tuple o) = tuple-normal e o (schemeAdmits (e .scheme) (o .scheme)) refl
 normal-admits e (opaque n) = refl
 normal-admits e fresh = refl
 
@@ -243,9 +253,9 @@ port-twice : (k : Scheme) (p : PortPart) → normalPort k (normalPort k p) ≡ n
 unfolding normalPort
 port-twice k Default = refl
 port-twice k Any = refl
-port-twice k (Number n) = go (eqb n (defaultPort k)) refl
+port-twice k (Number n) = go (isDropped k n) refl
   where
-    go : (b : Bool) → eqb n (defaultPort k) ≡ b → normalPort k (pick b Default (Number n)) ≡ pick b Default (Number n)
+    go : (b : Bool) → isDropped k n ≡ b → normalPort k (pick b Default (Number n)) ≡ pick b Default (Number n)
     go true e = unfold pick normalPort in refl
     go false e = unfold pick normalPort in rw e
 
@@ -258,7 +268,7 @@ port-stays-good : (k : Scheme) (p : PortPart) → GoodPort p → GoodPort (norma
 unfolding normalPort
 port-stays-good k Default g = tt
 port-stays-good k Any g = tt
-port-stays-good k (Number n) g = go (eqb n (defaultPort k))
+port-stays-good k (Number n) g = go (isDropped k n)
   where
     go : (b : Bool) → GoodPort (pick b Default (Number n))
     go true = unfold pick in tt

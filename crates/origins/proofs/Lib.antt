@@ -17,3 +17,4 @@ pub mod PortTexts
 pub mod NormalForms
 pub mod PlainTexts
 pub mod Laws
+pub mod Alike

@@ -3,14 +3,13 @@ use mathlib.Core.Path.{_≡_, refl, ap, _∙_, sym}
 use Prim.Native.Nat.{ℕ}
 use mathlib.Core.List.{List}
 use mathlib.Core.Bool.{Bool, true, false, not, _&&_, and-true}
-use borrow.Author.Tests.{eq-eqb, ne-eqb, not-true, not-false}
+use borrow.Author.Tests.{not-true, not-false}
 use Rattle.ascii.proofs.Clash.{clash}
 use Rattle.ascii.proofs.Bytes.{and-false}
 use Rattle.ascii.specs.Bytes.{pick}
 use Rattle.ascii.specs.Texts.{sameBytes}
-use Rattle.origins.specs.Ports.{defaultPort}
 use Rattle.origins.specs.Matching.{sameScheme}
-use Rattle.origins.specs.NormalForms.{normalPort, normal, sameHost, samePort, sameExpression}
+use Rattle.origins.specs.NormalForms.{isDropped, normalPort, normal, sameHost, samePort, sameExpression}
 use Rattle.origins.specs.Answers.{expressionBy, hostIn}
 use Rattle.origins.specs.Steps.{sameKind}
 use Rattle.origins.specs.declared.Scheme.{Scheme}
@@ -30,13 +29,13 @@ module _ (k : Scheme) (p : PortPart) where
   unfolding normalPort
   normal-any e = rw e
 
-  pub normal-dropped : (n q : ℕ) → q ≡ defaultPort k → n ≡ q → p ≡ Number n → Default ≡ normalPort k p
+  pub normal-dropped : (n : ℕ) (d : Bool) → d ≡ isDropped k n → d ≡ true → p ≡ Number n → Default ≡ normalPort k p
   unfolding normalPort pick
-  normal-dropped n q d h e = rw (e, eq-eqb n (defaultPort k) (h ∙ d))
+  normal-dropped n d u v e = rw (e, ← u, v)
 
-  pub normal-kept : (n q : ℕ) → q ≡ defaultPort k → (n ≡ q → ⊥) → p ≡ Number n → Number n ≡ normalPort k p
+  pub normal-kept : (n : ℕ) (d : Bool) → d ≡ isDropped k n → d ≡ false → p ≡ Number n → Number n ≡ normalPort k p
   unfolding normalPort pick
-  normal-kept n q d h e = rw (e, ne-eqb n (defaultPort k) (λ z. h (z ∙ sym d)))
+  normal-kept n d u v e = rw (e, ← u, v)
 
 kind-is : (a b : HostKind) → sameKind a b ≡ true → a ≡ b
 kind-is kind.None kind.None e = refl

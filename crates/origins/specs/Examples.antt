@@ -2,9 +2,10 @@
 use Prim.Native.Nat.{ℕ}
 use Prim.Native.String.{String}
 use mathlib.Core.Path.{_≡_, refl}
-use mathlib.Core.List.{List, [], _∷_}
-use mathlib.Core.Bool.{Bool, true, false, not}
+use mathlib.Core.List.{List, [], _∷_, _++_, map}
+use mathlib.Core.Bool.{Bool, true, false, not, _&&_}
 use mathlib.Core.Option.{Option, some, none}
+use Rattle.ascii.specs.Bytes.{pick}
 use Rattle.ascii.specs.Literals.{text}
 use Rattle.ascii.specs.Texts.{every, sameBytes}
 use Rattle.origins.specs.Origins.{OriginSaid, originOf}
@@ -40,22 +41,99 @@ abbrev right : Case → Bool
 right (admitted e o) = isYes (verdict (expressionOf (text e)) (originOf (text o)))
 right (refused e o) = isNo (verdict (expressionOf (text e)) (originOf (text o)))
 
--- a scheme alone, `*`, subdomains and ports, beside the cases of document 01 that stand in `edge_cases`
+-- subdomains, beside the cases of document 01 that stand in `edge_cases`
 abbrev matches : List Case
 matches =
-    admitted "https:" "https://a.example:444"
-    ∷ refused "https:" "http://a.example"
-    ∷ admitted "https://*" "https://a.example"
-    ∷ refused "https://*" "https://a.example:444"
-    ∷ admitted "https://*.example.com" "https://a.b.example.com"
+    admitted "https://*.example.com" "https://a.b.example.com"
     ∷ refused "https://*.example.com" "https://badexample.com"
-    ∷ admitted "http://example.com:443" "http://example.com:443"
-    ∷ refused "http://example.com:443" "https://example.com"
     ∷ []
 
 matches-right : every right matches ≡ true
 unfolding computing
 matches-right = refl
+
+-- R-3 of 02: every pair of scheme, port kind and host kind, against http origins at the ports 80, 443, 8080 and 8081, and against https origins at the same
+pub record Row : Type 0 where
+  pub expression : String
+  pub http : String
+  pub https : String
+
+abbrev row : String → String → String → Row
+row e a b = record { expression = e; http = a; https = b }
+
+-- what follows the host in those origins' texts
+abbrev httpPorts : List String
+httpPorts = "" ∷ ":443" ∷ ":8080" ∷ ":8081" ∷ []
+
+abbrev httpsPorts : List String
+httpsPorts = ":80" ∷ "" ∷ ":8080" ∷ ":8081" ∷ []
+
+-- `y` if admitted, `-` if not
+abbrev mark : Option Bool → ℕ
+mark (some b) = pick b 121 45
+mark none = 63
+
+abbrev marks : String → String → String → List String → List ℕ
+marks e scheme host ports = map (λ p. mark (verdict (expressionOf (text e)) (originOf (text scheme ++ (text host ++ text p))))) ports
+
+abbrev rightAt : String → Row → Bool
+rightAt h r =
+    sameBytes (marks (r .expression) "http://" h httpPorts) (text (r .http)) && sameBytes (marks (r .expression) "https://" h httpsPorts) (text (r .https))
+
+-- the host is `a.example`
+abbrev hostRows : List Row
+hostRows =
+    row "http://a.example" "y---" "-y--"
+    ∷ row "http://a.example:80" "y---" "y---"
+    ∷ row "http://a.example:443" "-y--" "-y--"
+    ∷ row "http://a.example:8080" "--y-" "--y-"
+    ∷ row "http://a.example:*" "yyyy" "yyyy"
+    ∷ row "https://a.example" "----" "-y--"
+    ∷ row "https://a.example:80" "----" "y---"
+    ∷ row "https://a.example:443" "----" "-y--"
+    ∷ row "https://a.example:8080" "----" "--y-"
+    ∷ row "https://a.example:*" "----" "yyyy"
+    ∷ row "http://*.example" "y---" "-y--"
+    ∷ row "http://*.example:80" "y---" "y---"
+    ∷ row "http://*.example:443" "-y--" "-y--"
+    ∷ row "http://*.example:8080" "--y-" "--y-"
+    ∷ row "http://*.example:*" "yyyy" "yyyy"
+    ∷ row "https://*.example" "----" "-y--"
+    ∷ row "https://*.example:80" "----" "y---"
+    ∷ row "https://*.example:443" "----" "-y--"
+    ∷ row "https://*.example:8080" "----" "--y-"
+    ∷ row "https://*.example:*" "----" "yyyy"
+    ∷ []
+
+-- the host is any
+abbrev anyHostRows : List Row
+anyHostRows =
+    row "http://*" "y---" "-y--"
+    ∷ row "http://*:80" "y---" "y---"
+    ∷ row "http://*:443" "-y--" "-y--"
+    ∷ row "http://*:8080" "--y-" "--y-"
+    ∷ row "http://*:*" "yyyy" "yyyy"
+    ∷ row "https://*" "----" "-y--"
+    ∷ row "https://*:80" "----" "y---"
+    ∷ row "https://*:443" "----" "-y--"
+    ∷ row "https://*:8080" "----" "--y-"
+    ∷ row "https://*:*" "----" "yyyy"
+    ∷ row "http:" "yyyy" "yyyy"
+    ∷ row "https:" "----" "yyyy"
+    ∷ []
+
+host-rows-right : every (rightAt "a.example") hostRows ≡ true
+unfolding computing
+host-rows-right = refl
+
+any-host-rows-right : every (rightAt "a.example") anyHostRows && every (rightAt "example") anyHostRows ≡ true
+unfolding computing
+any-host-rows-right = refl
+
+-- of another host, what names a host admits none
+host-rows-elsewhere : every (λ r. rightAt "example" (row (r .expression) "----" "----")) hostRows ≡ true
+unfolding computing
+host-rows-elsewhere = refl
 
 -- texts, and whether they say a tuple origin
 abbrev isTuple : OriginSaid → Bool
@@ -126,6 +204,12 @@ forms =
     ∷ form "https://*.A:*" "https://*.a:*"
     ∷ form "HTTP:" "http:"
     ∷ form "https://*:00443" "https://*"
+    ∷ form "https://*.a:443" "https://*.a"
+    ∷ form "https://a:80" "https://a:80"
+    ∷ form "http://a" "http://a"
+    ∷ form "http://A:0080" "http://a:80"
+    ∷ form "http://*:80" "http://*:80"
+    ∷ form "http://*.a:00080" "http://*.a:80"
     ∷ form "https://a:00000" "https://a:0"
     ∷ nothing "https://a.example:65536"
     ∷ nothing "https://a:000443"

@@ -4,6 +4,7 @@ pub mod Origins
 pub mod Expressions
 pub mod Matching
 pub mod NormalForms
+pub mod Alike
 pub mod Answers
 pub mod Steps
 pub mod Computing

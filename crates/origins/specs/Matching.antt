@@ -1,4 +1,4 @@
--- 01, "Origins and expressions": whether an expression admits an origin, and whether two origins are the same.
+-- 01, "Origins and expressions", with R-3 of 02: whether an expression admits an origin, and whether two origins are the same.
 use Prim.Native.Nat.{ℕ, _-_}
 use mathlib.Core.List.{List, _∷_}
 use mathlib.Core.Bool.{Bool, true, false, _&&_}
@@ -21,15 +21,17 @@ sameScheme Http Https = false
 sameScheme Https Http = false
 sameScheme Https Https = true
 
--- an expression's scheme against an origin's: "The scheme must be equal."
+-- an expression's scheme against an origin's: R-3, "`http:` and `http://...` admit https origins too"
 abbrev pub schemeAdmits : Scheme → Scheme → Bool
-schemeAdmits k j = sameScheme k j
+schemeAdmits Http j = true
+schemeAdmits Https Http = false
+schemeAdmits Https Https = true
 
 -- ends in a text, with at least one byte before it
 unfoldable pub endsIn : List ℕ → List ℕ → Bool
 endsIn t h = ltb (length t) (length h) && sameBytes t (drop (length h - length t) h)
 
--- a port-part against the port of an origin of a scheme: "No port means the default port."
+-- a port-part against the scheme and the port of an origin: R-3, "a missing port means the default port of the origin's own scheme"
 unfoldable pub portAdmits : PortPart → Scheme → ℕ → Bool
 portAdmits Default k n = eqb n (defaultPort k)
 portAdmits Any k n = true

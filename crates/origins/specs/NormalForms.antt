@@ -1,4 +1,4 @@
--- 01, "Tidied headers": an expression's normal form, "lower case, no leading zeros, default port dropped"; and an origin's text.
+-- 01, "Tidied headers", with R-3 of 02: an expression's normal form, "lower case, no leading zeros, default port dropped"; and an origin's text.
 use Prim.Native.Nat.{ℕ, _+_, _≤_}
 use mathlib.Core.Path.{_≡_}
 use mathlib.Core.List.{List, [], _∷_, _++_}
@@ -15,6 +15,7 @@ use Rattle.origins.specs.Expressions.{HostPart, SourceExpression}
 use Rattle.origins.specs.Expressions.HostPart.{noHost, anyHost, exactHost, subdomainsOf}
 use Rattle.origins.specs.Matching.{sameScheme}
 use Rattle.origins.specs.declared.Scheme.{Scheme}
+use Rattle.origins.specs.declared.Scheme.the-variants.{Http, Https}
 use Rattle.origins.specs.declared.PortPart.{PortPart}
 use Rattle.origins.specs.declared.PortPart.the-variants.{Default, Any, Number}
 
@@ -37,12 +38,17 @@ expressionPartsText k (subdomainsOf h) p = schemeSlashes k ++ (42 ∷ 46 ∷ (h 
 abbrev pub expressionText : SourceExpression → List ℕ
 expressionText e = expressionPartsText (e .scheme) (e .host) (e .port)
 
+-- whether a port after a scheme is dropped: "default port dropped", and R-3, "the tidied form keeps a written `:80` after http"
+abbrev pub isDropped : Scheme → ℕ → Bool
+isDropped Http n = false
+isDropped Https n = eqb n (defaultPort Https)
+
 unfoldable pub normalPort : Scheme → PortPart → PortPart
 normalPort k Default = Default
 normalPort k Any = Any
-normalPort k (Number n) = pick (eqb n (defaultPort k)) Default (Number n)
+normalPort k (Number n) = pick (isDropped k n) Default (Number n)
 
--- the default port dropped
+-- the default port of https dropped
 unfoldable pub normal : SourceExpression → SourceExpression
 normal e = record { scheme = e .scheme; host = e .host; port = normalPort (e .scheme) (e .port) }
 

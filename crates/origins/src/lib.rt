@@ -13,7 +13,7 @@ ghost use Rattle.origins.specs.Expressions.{schemeSource, startsLowered,
 ghost use Rattle.origins.specs.Steps.{fold, portNumber, digitsAs, portAs, hostAs, sameKind};
 ghost use Rattle.origins.specs.Matching.{sameScheme, schemeAdmits, endsIn, portAdmits, admitsTuple, admits, sameTuple, sameOrigin};
 ghost use Rattle.origins.specs.Answers.{originAs, sourceAs, tupleIn, originIn, hostIn, expressionIn, expressionBy, tupleBy, IsPortText};
-ghost use Rattle.origins.specs.NormalForms.{normalPort, normal, sameHost, samePort, sameExpression};
+ghost use Rattle.origins.specs.NormalForms.{isDropped, normalPort, normal, sameHost, samePort, sameExpression};
 use ascii::Class;
 use limits::HOST_BYTES;
 use limits::LAST_PORT;
@@ -446,7 +446,13 @@ fn is_subdomain(x: &[u8], h: &[u8], anycase: bool) -> bool
 fn scheme_admits(k: Scheme, j: Scheme) -> bool
     ensures { λ r. ⌜ r ≡ schemeAdmits k j ⌝ }
 {
-    same_scheme(k, j)
+    match k {
+        Scheme::Http => true,
+        Scheme::Https => match j {
+            Scheme::Http => false,
+            Scheme::Https => true,
+        },
+    }
 }
 
 fn port_admits(p: PortPart, k: Scheme, n: u32) -> bool
@@ -571,6 +577,16 @@ pub fn same_origin(s: &[u8], a: OriginRange, t: &[u8], b: OriginRange) -> bool
     }
 }
 
+// Whether a port after a scheme is dropped in the normal form.
+fn is_dropped(k: Scheme, n: u32) -> bool
+    ensures { λ r. ⌜ r ≡ isDropped k n ⌝ }
+{
+    match k {
+        Scheme::Http => false,
+        Scheme::Https => n == default_port(Scheme::Https),
+    }
+}
+
 // The port-part of an expression's normal form.
 pub fn normal_port(k: Scheme, p: PortPart) -> PortPart
     ensures { λ r. ⌜ r ≡ normalPort k p ⌝ }
@@ -579,7 +595,7 @@ pub fn normal_port(k: Scheme, p: PortPart) -> PortPart
         PortPart::Default => PortPart::Default,
         PortPart::Any => PortPart::Any,
         PortPart::Number(n) => {
-            if n == default_port(k) {
+            if is_dropped(k, n) {
                 PortPart::Default
             } else {
                 PortPart::Number(n)

@@ -22,6 +22,8 @@ rows =
     ∷ tidies "camera=1" ""
     ∷ tidies "camera=(\"junk\")" "camera=()"
     ∷ tidies "camera=(\"https:\" \"https://*:*\" \"HTTPS:\");x, usb=\"http://x:0443\"" "camera=(\"https:\" \"https://*:*\"), usb=(\"http://x:443\")"
+    -- R-3 of 02: `http://a` and `http://a:80` are two, `https://a` and `https://a:443` one
+    ∷ tidies "camera=(\"http://A:0080\" \"http://a\" \"http://a:80\" \"https://a:443\" \"https://a\")" "camera=(\"http://a:80\" \"http://a\" \"https://a\")"
     ∷ []
 
 rows-right : every right rows ≡ true
