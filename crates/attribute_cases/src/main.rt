@@ -1,4 +1,4 @@
-// Cases of documents 01 and 02 (R-1) about frames. The container document stands at https://a.example.
+// Cases of documents 01 and 02 (R-1, R-3) about frames. The container document stands at https://a.example.
 // Each line of standard input is a case, its fields parted by `|`; it is written again with the answer after it. The first field
 // has words: `container` asks the container about itself (header, feature), `grandchild` a frame's frame (the container's
 // header, its own header, feature), `enabled` is for the number of the container's enabled features (header), `forecast` for a

@@ -1,4 +1,4 @@
-// Cases of document 01 and of 02's R-2: what origin texts say, what expressions are read as, which
+// Cases of document 01 and of 02's R-2 and R-3: what origin texts say, what expressions are read as, which
 // origins they admit, which origins are the same, the features, and which name is left to compare
 // with a word. Each line of standard input is a case: its kind and one or two texts in quotes. It is
 // written again with the answer after it.

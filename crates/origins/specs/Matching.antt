@@ -21,11 +21,10 @@ sameScheme Http Https = false
 sameScheme Https Http = false
 sameScheme Https Https = true
 
--- an expression's scheme against an origin's: R-3, "`http:` and `http://...` admit https origins too"
+-- an expression's scheme against an origin's: "The scheme must be equal."; R-3, "`http:` and `http://...` admit https origins too"
 abbrev pub schemeAdmits : Scheme → Scheme → Bool
 schemeAdmits Http j = true
-schemeAdmits Https Http = false
-schemeAdmits Https Https = true
+schemeAdmits Https j = sameScheme Https j
 
 -- ends in a text, with at least one byte before it
 unfoldable pub endsIn : List ℕ → List ℕ → Bool

@@ -448,10 +448,7 @@ fn scheme_admits(k: Scheme, j: Scheme) -> bool
 {
     match k {
         Scheme::Http => true,
-        Scheme::Https => match j {
-            Scheme::Http => false,
-            Scheme::Https => true,
-        },
+        Scheme::Https => same_scheme(k, j),
     }
 }
 
@@ -582,8 +579,8 @@ fn is_dropped(k: Scheme, n: u32) -> bool
     ensures { λ r. ⌜ r ≡ isDropped k n ⌝ }
 {
     match k {
-        Scheme::Http => false,
-        Scheme::Https => n == default_port(Scheme::Https),
+        Scheme::Http => false, // https is admitted too, and has another default port
+        Scheme::Https => n == default_port(k),
     }
 }
 

@@ -159,6 +159,10 @@ fn main() {
         b"ports and repeats",
         b"usb=(\"http://x:0443\" \"http://X:443\" \"https:\" self;a)",
     );
+    tidy_wide(
+        b"ports of both schemes",
+        b"camera=(\"http://A:0080\" \"http://a\" \"http://a:80\" \"https://a:443\" \"https://a\")",
+    );
     spaces(b"1024 bytes", 1024);
     spaces(b"1025 bytes", 1025);
     short_runs();
