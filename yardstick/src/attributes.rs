@@ -163,6 +163,18 @@ mod tests {
             admitted("camera HTTPS://C.example 'self'", 0),
             Some([true, false, true])
         );
+        // R-3: "`http:` and `http://...` admit https origins too".
+        assert_eq!(
+            admitted("camera http://c.example", 0),
+            Some([false, false, true])
+        );
+        assert_eq!(
+            admitted("camera http://c.example:80 http://a.example:443", 0),
+            Some([true, false, false])
+        );
+        assert_eq!(admitted("camera HTTP:", 0), Some([true; 3]));
+        assert_eq!(admitted("camera http://*.example", 0), Some([true; 3]));
+        assert_eq!(admitted("camera http://*:80", 0), Some([false; 3]));
         assert_eq!(admitted("camera\x0bx; usb *", 0), None);
         assert_eq!(admitted("camera\x0bx; usb *", 16), Some([true; 3]));
     }

@@ -1,7 +1,7 @@
 //! Source expressions.
 
 use crate::limits::MAX_PORT_DIGITS;
-use crate::origins::{decimal_port, is_host, Origin, Scheme};
+use crate::origins::{decimal_port, is_host, Origin, Scheme, TupleOrigin};
 
 #[derive(Clone, Debug, PartialEq, Eq)]
 pub enum HostPart {
@@ -14,17 +14,19 @@ pub enum HostPart {
 
 #[derive(Clone, Copy, Debug, PartialEq, Eq)]
 pub enum PortPart {
+    /// No port, or `:443` after https, which says the same.
+    Default,
     /// `:*`
     Any,
-    /// The port written, or else the scheme's default.
+    /// Any other port that is written.
     One(u16),
 }
 
-/// Held in lower case and with its port settled, so that two expressions that
-/// are tidied alike are equal.
+/// Held in lower case and with its port settled, so that two expressions are
+/// equal exactly if they are tidied alike.
 #[derive(Clone, Debug, PartialEq, Eq)]
 pub enum SourceExpression {
-    /// "`http:` or `https:` alone (any origin of that scheme)"
+    /// "`http:` or `https:` alone (any origin of that scheme)", and R-3.
     SchemeOnly(Scheme),
     Full {
         scheme: Scheme,
@@ -49,9 +51,8 @@ impl SourceExpression {
         }
         let rest = rest.strip_prefix(b"//")?;
         let (host, port) = match rest.iter().position(|&b| b == b':') {
-            // "No port means the default port."
-            None => (rest, PortPart::One(scheme.default_port())),
-            Some(colon) => (&rest[..colon], parse_port_part(&rest[colon + 1..])?),
+            None => (rest, PortPart::Default),
+            Some(colon) => (&rest[..colon], parse_port_part(&rest[colon + 1..], scheme)?),
         };
         Some(SourceExpression::Full {
             scheme,
@@ -66,17 +67,17 @@ impl SourceExpression {
             return false;
         };
         match self {
-            SourceExpression::SchemeOnly(scheme) => *scheme == origin.scheme,
-            // "The scheme must be equal."
+            SourceExpression::SchemeOnly(scheme) => scheme_admits(*scheme, origin.scheme),
             SourceExpression::Full { scheme, host, port } => {
-                *scheme == origin.scheme
+                scheme_admits(*scheme, origin.scheme)
                     && host_admits(host, &origin.host)
-                    && port_admits(*port, origin.port)
+                    && port_admits(*port, origin)
             }
         }
     }
 
-    /// "lower case, no leading zeros, default port dropped"
+    /// "lower case, no leading zeros, default port dropped"; R-3: "the tidied
+    /// form keeps a written `:80` after http".
     pub fn write_tidied(&self, out: &mut Vec<u8>) {
         match self {
             SourceExpression::SchemeOnly(scheme) => {
@@ -95,8 +96,8 @@ impl SourceExpression {
                     }
                 }
                 match port {
+                    PortPart::Default => {}
                     PortPart::Any => out.extend_from_slice(b":*"),
-                    PortPart::One(port) if *port == scheme.default_port() => {}
                     PortPart::One(port) => out.extend_from_slice(format!(":{port}").as_bytes()),
                 }
             }
@@ -115,19 +116,32 @@ fn parse_host_part(text: &[u8]) -> Option<HostPart> {
     is_host(text).then(|| HostPart::Exact(text.to_vec()))
 }
 
-fn parse_port_part(text: &[u8]) -> Option<PortPart> {
+fn parse_port_part(text: &[u8], scheme: Scheme) -> Option<PortPart> {
     if text == b"*" {
         return Some(PortPart::Any);
     }
     if text.len() > MAX_PORT_DIGITS {
         return None;
     }
-    decimal_port(text).map(PortPart::One)
+    let port = decimal_port(text)?;
+    // Only https origins are admitted after https, so that its default port
+    // says no more than no port. After http "two expressions that were one
+    // thing now differ" (R-3).
+    if scheme == Scheme::Https && port == scheme.default_port() {
+        return Some(PortPart::Default);
+    }
+    Some(PortPart::One(port))
+}
+
+/// "The scheme must be equal", but R-3: "`http:` and `http://...` admit https
+/// origins too".
+fn scheme_admits(scheme: Scheme, origin: Scheme) -> bool {
+    scheme == origin || (scheme == Scheme::Http && origin == Scheme::Https)
 }
 
 /// `*.` and a host "admits hosts ending in the dot and the host with at least
 /// one byte before, and so not the bare host. It is matched byte for byte".
-fn host_admits(part: &HostPart, host: &[u8]) -> bool {
+pub fn host_admits(part: &HostPart, host: &[u8]) -> bool {
     match part {
         HostPart::Any => true,
         HostPart::Exact(exact) => exact == host,
@@ -138,10 +152,13 @@ fn host_admits(part: &HostPart, host: &[u8]) -> bool {
     }
 }
 
-fn port_admits(part: PortPart, port: u16) -> bool {
+/// R-3: "a missing port means the default port of the origin's own scheme. A
+/// written port is compared as before".
+fn port_admits(part: PortPart, origin: &TupleOrigin) -> bool {
     match part {
+        PortPart::Default => origin.port == origin.scheme.default_port(),
         PortPart::Any => true,
-        PortPart::One(one) => one == port,
+        PortPart::One(port) => port == origin.port,
     }
 }
 
@@ -174,14 +191,17 @@ mod tests {
         assert!(!admits("https://example.com", "https://example.com:444"));
         assert!(admits("HTTPS://Example.COM:0443", "https://example.com"));
         assert_eq!(SourceExpression::parse(b"https://a.example:65536"), None);
-        assert!(!admits("http://example.com", "https://example.com"));
+        // R-3: "The marked http case turns to yes."
+        assert!(admits("http://example.com", "https://example.com"));
+        assert!(!admits("http://example.com:80", "https://example.com"));
     }
 
     #[test]
     fn every_form() {
         assert!(admits("https:", "https://a:1"));
         assert!(admits("HtTp:", "http://a"));
-        assert!(!admits("http:", "https://a"));
+        assert!(admits("http:", "https://a"));
+        assert!(!admits("https:", "http://a"));
         assert!(admits("https://*", "https://a.b"));
         assert!(!admits("https://*", "https://a.b:444"));
         assert!(admits("https://*:*", "https://a.b:444"));
@@ -190,8 +210,147 @@ mod tests {
         assert!(!admits("https://*.b", "https://ab"));
         assert!(admits("http://a:00000", "http://a:0"));
         for opaque in ["null", ""] {
-            assert!(!admits("https:", opaque));
-            assert!(!admits("https://*:*", opaque));
+            for scheme in ["http", "https"] {
+                assert!(!admits(&format!("{scheme}:"), opaque));
+                assert!(!admits(&format!("{scheme}://*:*"), opaque));
+            }
+        }
+    }
+
+    // ------------------------------------------------------------- R-3
+
+    /// For each expression, which of these it admits: http at 80, 443 and 8080,
+    /// https at 443, 80 and 8080.
+    const ROWS: [(&str, &str); 32] = [
+        ("http:", "yes yes yes  yes yes yes"),
+        ("http://g.example.com", "yes no  no   yes no  no"),
+        ("http://g.example.com:80", "yes no  no   no  yes no"),
+        ("http://g.example.com:443", "no  yes no   yes no  no"),
+        ("http://g.example.com:8080", "no  no  yes  no  no  yes"),
+        ("http://g.example.com:*", "yes yes yes  yes yes yes"),
+        ("http://*.example.com", "yes no  no   yes no  no"),
+        ("http://*.example.com:80", "yes no  no   no  yes no"),
+        ("http://*.example.com:443", "no  yes no   yes no  no"),
+        ("http://*.example.com:8080", "no  no  yes  no  no  yes"),
+        ("http://*.example.com:*", "yes yes yes  yes yes yes"),
+        ("http://*", "yes no  no   yes no  no"),
+        ("http://*:80", "yes no  no   no  yes no"),
+        ("http://*:443", "no  yes no   yes no  no"),
+        ("http://*:8080", "no  no  yes  no  no  yes"),
+        ("http://*:*", "yes yes yes  yes yes yes"),
+        ("https:", "no  no  no   yes yes yes"),
+        ("https://g.example.com", "no  no  no   yes no  no"),
+        ("https://g.example.com:80", "no  no  no   no  yes no"),
+        ("https://g.example.com:443", "no  no  no   yes no  no"),
+        ("https://g.example.com:8080", "no  no  no   no  no  yes"),
+        ("https://g.example.com:*", "no  no  no   yes yes yes"),
+        ("https://*.example.com", "no  no  no   yes no  no"),
+        ("https://*.example.com:80", "no  no  no   no  yes no"),
+        ("https://*.example.com:443", "no  no  no   yes no  no"),
+        ("https://*.example.com:8080", "no  no  no   no  no  yes"),
+        ("https://*.example.com:*", "no  no  no   yes yes yes"),
+        ("https://*", "no  no  no   yes no  no"),
+        ("https://*:80", "no  no  no   no  yes no"),
+        ("https://*:443", "no  no  no   yes no  no"),
+        ("https://*:8080", "no  no  no   no  no  yes"),
+        ("https://*:*", "no  no  no   yes yes yes"),
+    ];
+
+    /// The six origins of the rows, at this host.
+    fn six(host: &str) -> [String; 6] {
+        [
+            format!("http://{host}"),
+            format!("http://{host}:443"),
+            format!("http://{host}:8080"),
+            format!("https://{host}"),
+            format!("https://{host}:80"),
+            format!("https://{host}:8080"),
+        ]
+    }
+
+    #[test]
+    fn schemes_and_ports() {
+        for (expression, row) in ROWS {
+            let row: Vec<&str> = row.split_whitespace().collect();
+            assert_eq!(row.len(), 6, "{expression}");
+            for (origin, wanted) in six("g.example.com").iter().zip(row) {
+                let wanted = wanted == "yes";
+                assert_eq!(admits(expression, origin), wanted, "{expression} {origin}");
+                // Case and leading zeros change nothing.
+                let upper = expression.to_uppercase();
+                assert_eq!(admits(&upper, origin), wanted, "{upper} {origin}");
+                let zeros = expression.replace(":80", ":080").replace(":443", ":00443");
+                assert_eq!(admits(&zeros, origin), wanted, "{zeros} {origin}");
+            }
+        }
+    }
+
+    #[test]
+    fn another_host_is_not_admitted() {
+        for (expression, _) in ROWS.iter().filter(|(e, _)| e.contains("example")) {
+            for host in ["h.example.org", "example.com", "gexample.com", "com"] {
+                for origin in six(host) {
+                    assert!(!admits(expression, &origin), "{expression} {origin}");
+                }
+            }
+            // Beneath the exact host only `*.` admits.
+            if expression.contains("//g.") {
+                for origin in six("x.g.example.com") {
+                    assert!(!admits(expression, &origin), "{expression} {origin}");
+                }
+            }
+        }
+    }
+
+    #[test]
+    fn ports_that_are_no_default() {
+        assert!(admits("http://a:0", "https://a:0"));
+        assert!(!admits("http://a:0", "https://a"));
+        assert!(!admits("http://a", "https://a:0"));
+        assert!(admits("http://a:65535", "https://a:65535"));
+        assert!(!admits("http://a:8080", "https://a:8081"));
+        assert!(!admits("http://a:8080", "http://a:8081"));
+    }
+
+    #[test]
+    fn doubles() {
+        let parse = |text: &str| SourceExpression::parse(text.as_bytes()).expect("an expression");
+        // Two that differ.
+        for (one, other) in [
+            ("http://a", "http://a:80"),
+            ("http://*", "http://*:80"),
+            ("http://*.a", "http://*.a:80"),
+            ("http://a", "http://a:443"),
+            ("http://a:80", "http://a:443"),
+            ("https://a", "https://a:80"),
+            ("http://a", "https://a"),
+            ("http://a:443", "https://a:443"),
+            ("http://a:80", "https://a:80"),
+            ("http:", "https:"),
+            ("http:", "http://*"),
+            ("http:", "http://*:*"),
+            ("https:", "https://*:*"),
+        ] {
+            assert_ne!(parse(one), parse(other), "{one} {other}");
+            assert_ne!(tidied(one), tidied(other), "{one} {other}");
+        }
+        // Two that are one.
+        for (one, other) in [
+            ("http://a", "HTTP://A"),
+            ("http://a:80", "http://a:080"),
+            ("http://*:80", "HTTP://*:00080"),
+            ("http://*.a:80", "http://*.A:0080"),
+            ("http://a:443", "http://a:0443"),
+            ("https://a", "https://a:443"),
+            ("https://a", "https://a:00443"),
+            ("https://*", "https://*:443"),
+            ("https://*.a", "https://*.a:0443"),
+            ("https://a:80", "https://a:00080"),
+            ("http://a:*", "Http://a:*"),
+            ("http:", "HTTP:"),
+        ] {
+            assert_eq!(parse(one), parse(other), "{one} {other}");
+            assert_eq!(tidied(one), tidied(other), "{one} {other}");
         }
     }
 
@@ -245,7 +404,22 @@ mod tests {
     fn tidied_forms() {
         assert_eq!(tidied("HTTPS://B.example:443"), "https://b.example");
         assert_eq!(tidied("http://b:00443"), "http://b:443");
-        assert_eq!(tidied("http://*.B:0080"), "http://*.b");
+        assert_eq!(tidied("http://b:443"), "http://b:443");
+        assert_eq!(tidied("Http://B"), "http://b");
+        assert_eq!(tidied("HTTP://B:80"), "http://b:80");
+        assert_eq!(tidied("http://b:080"), "http://b:80");
+        assert_eq!(tidied("http://*"), "http://*");
+        assert_eq!(tidied("http://*:00080"), "http://*:80");
+        assert_eq!(tidied("http://*.B"), "http://*.b");
+        assert_eq!(tidied("http://*.B:0080"), "http://*.b:80");
+        assert_eq!(tidied("https://b"), "https://b");
+        assert_eq!(tidied("https://b:00443"), "https://b");
+        assert_eq!(tidied("https://*:443"), "https://*");
+        assert_eq!(tidied("https://*.b:0443"), "https://*.b");
+        assert_eq!(tidied("https://b:080"), "https://b:80");
+        assert_eq!(tidied("https://b:04430"), "https://b:4430");
+        assert_eq!(tidied("http://b:8080"), "http://b:8080");
+        assert_eq!(tidied("https://b:*"), "https://b:*");
         assert_eq!(tidied("http://*:*"), "http://*:*");
         assert_eq!(tidied("http://a:00"), "http://a:0");
         assert_eq!(tidied("Http:"), "http:");

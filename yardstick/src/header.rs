@@ -141,7 +141,11 @@ mod tests {
         assert_eq!(camera("camera=\"https:\""), listed(false, &["https:"]));
         assert_eq!(
             camera("camera=(\"http://A\" none self;x \"http://a:80\" \"http://b\")"),
-            listed(true, &["http://a", "http://b"])
+            listed(true, &["http://a", "http://a:80", "http://b"])
+        );
+        assert_eq!(
+            camera("camera=(\"https://A\" \"https://a:443\" \"https://b:0443\")"),
+            listed(false, &["https://a", "https://b"])
         );
     }
 

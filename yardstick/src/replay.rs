@@ -50,7 +50,7 @@ pub fn attributes_of(line: &[u8]) -> Option<(Vec<u8>, Option<Vec<u8>>)> {
 }
 
 /// A line that is a call, its texts decoded.
-enum Call {
+pub enum Call {
     Top {
         origin: Vec<u8>,
         header: Vec<u8>,
@@ -85,12 +85,12 @@ enum Call {
 }
 
 /// The fields that a framed load and a forecast share.
-struct FrameFields {
-    container: u32,
-    src: Vec<u8>,
-    allowfullscreen: bool,
-    allow: Vec<u8>,
-    sandbox: Option<Vec<u8>>,
+pub struct FrameFields {
+    pub container: u32,
+    pub src: Vec<u8>,
+    pub allowfullscreen: bool,
+    pub allow: Vec<u8>,
+    pub sandbox: Option<Vec<u8>>,
 }
 
 impl FrameFields {
@@ -122,7 +122,7 @@ impl FrameFields {
 }
 
 impl Call {
-    fn parse(line: &[u8]) -> Option<Call> {
+    pub fn parse(line: &[u8]) -> Option<Call> {
         let fields: Vec<&[u8]> = line.split(|&b| b == b'\t').collect();
         Some(match fields[..] {
             [b"top", origin, header] => Call::Top {

@@ -93,9 +93,57 @@ mod tests {
         assert_eq!(tidied("camera=( 1 \"x\" )").as_deref(), Ok("camera=()"));
         assert_eq!(
             tidied(r#"camera=("http:";a "http://b:0080" "http:" "http://a:00443");x=1"#).as_deref(),
-            Ok(r#"camera=("http:" "http://b" "http://a:443")"#)
+            Ok(r#"camera=("http:" "http://b:80" "http://a:443")"#)
         );
         assert_eq!(tidied("camera=(self), "), Err(Refusal::NotADictionary));
+    }
+
+    /// R-3: "the tidied form keeps a written `:80` after http".
+    #[test]
+    fn written_ports() {
+        for (list, out) in [
+            // Two that stay two, in order of first appearance.
+            (r#""http://a" "http://a:80""#, r#""http://a" "http://a:80""#),
+            (
+                r#""http://a:0080" self "HTTP://A""#,
+                r#"self "http://a:80" "http://a""#,
+            ),
+            (
+                r#""http://*:80" "http://*" "http:""#,
+                r#""http://*:80" "http://*" "http:""#,
+            ),
+            (
+                r#""http://*.a" "http://*.a:80" "http://*.a:443""#,
+                r#""http://*.a" "http://*.a:80" "http://*.a:443""#,
+            ),
+            (
+                r#""http://a" "https://a" "https://a:80""#,
+                r#""http://a" "https://a" "https://a:80""#,
+            ),
+            // Two that are one.
+            (
+                r#""http://a:80" "http://a" "HTTP://a:00080" "http://A""#,
+                r#""http://a:80" "http://a""#,
+            ),
+            (
+                r#""https://a:443" "https://a" "https://a:0443""#,
+                r#""https://a""#,
+            ),
+            (r#""https://*" "https://*:443""#, r#""https://*""#),
+            (
+                r#""https://*.a:00443" "http://a:443" "https://*.a""#,
+                r#""https://*.a" "http://a:443""#,
+            ),
+        ] {
+            let tidy_list = |list: &str| tidied(&format!("camera=({list})"));
+            let out = format!("camera=({out})");
+            assert_eq!(tidy_list(list).as_deref(), Ok(out.as_str()), "{list}");
+            assert_eq!(tidied(&out).as_deref(), Ok(out.as_str()));
+        }
+        assert_eq!(
+            tidied("usb=\"HTTP://a:80\", camera=\"https://a:443\"").as_deref(),
+            Ok("camera=(\"https://a\"), usb=(\"http://a:80\")")
+        );
     }
 
     #[test]

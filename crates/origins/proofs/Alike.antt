@@ -1,35 +1,35 @@
 -- Expressions that admit the same origins have one normal form, but for the pairs of `StayTwo`: if they differ in a part, an origin tells them apart. Assumes nothing.
 use mathlib.Core.Path.{_≡_, refl, ap, _∙_, sym, subst}
-use Prim.Native.Nat.{ℕ, _+_, _-_, _≤_, _<_}
-use mathlib.Core.List.{List, [], _∷_, _++_}
+use Prim.Native.Nat.{ℕ, _+_, _-_, _≤_}
+use mathlib.Core.List.{List, [], _∷_}
 use mathlib.Core.Bool.{Bool, true, false, _&&_}
 use mathlib.Core.Logic.{_⊎_, inl, inr}
 use native.Mathlib.Omega.{arith}
 use lib.ListN.{length, drop, length-append}
-use lib.Dec.{eqb, ltb}
+use lib.Dec.{ltb}
 use borrow.Author.Tests.{eqb-true, eq-eqb, ltb-true, ltb-false}
 use Rattle.ascii.proofs.Clash.{clash}
 use Rattle.limits.specs.Limits.{lastPort, hostBytes}
 use Rattle.ascii.specs.Bytes.{pick}
 use Rattle.ascii.specs.Texts.{sameBytes}
-use Rattle.ascii.proofs.Bytes.{and-left, and-right}
+use Rattle.ascii.proofs.Bytes.{and-left, and-right, and-false}
 use Rattle.ascii.proofs.Texts.{bytes-same, same-bytes}
 use Rattle.origins.specs.Hosts.{isHost}
 use Rattle.origins.specs.Ports.{defaultPort}
 use Rattle.origins.specs.Origins.{TupleOrigin, Origin}
 use Rattle.origins.specs.Origins.Origin.{tuple}
-use Rattle.origins.specs.Expressions.{HostPart, SourceExpression, expressionOf}
+use Rattle.origins.specs.Expressions.{HostPart, SourceExpression}
 use Rattle.origins.specs.Expressions.HostPart.{noHost, anyHost, exactHost, subdomainsOf}
 use Rattle.origins.specs.Matching.{schemeAdmits, endsIn, portAdmits, hostAdmits, admits}
-use Rattle.origins.specs.NormalForms.{GoodPort, GoodHost, GoodExpression, GoodOrigin, isDropped, normalPort, normal, normalForm, expressionPartsText}
+use Rattle.origins.specs.NormalForms.{GoodPort, GoodHost, GoodExpression, GoodOrigin, normalPort, normal, normalForm, expressionPartsText}
 use Rattle.origins.specs.Alike.{AdmitAlike, NoneBelow, below, StayTwo}
 use Rattle.origins.specs.Alike.StayTwo.{everything, nothing}
+use Rattle.origins.specs.Computing.{computing}
 use Rattle.origins.specs.declared.Scheme.{Scheme}
 use Rattle.origins.specs.declared.Scheme.the-variants.{Http, Https}
 use Rattle.origins.specs.declared.PortPart.{PortPart}
 use Rattle.origins.specs.declared.PortPart.the-variants.{Default, Any, Number}
 use Rattle.origins.proofs.Laws.{host-most, host-origin, origin-host-most, letter-below, ends-before, before-ends, expression-back, admits-parts, admits-any-port, form-parts, normal-good, normal-admits, default-dropped, default-most}
-use Rattle.origins.specs.Computing.{computing}
 
 -- ---- the same normal form: the same origins
 
@@ -97,11 +97,8 @@ data Reach : HostPart → Type 0 where
   reaches : {x : HostPart} (h : List ℕ) → isHost h ≡ true → hostFits x h ≡ true → Reach x
   too-long : (g : List ℕ) → NoneBelow g → Reach (subdomainsOf g)
 
-below-a : (g : List ℕ) → isHost g ≡ true → 2 + length g ≤ hostBytes → isHost (97 ∷ 46 ∷ g) ≡ true
-below-a g e m = letter-below 97 g refl e m
-
-below-b : (g : List ℕ) → isHost g ≡ true → 2 + length g ≤ hostBytes → isHost (98 ∷ 46 ∷ g) ≡ true
-below-b g e m = letter-below 98 g refl e m
+below-fits : (b : ℕ) (g : List ℕ) → endsIn (46 ∷ g) (b ∷ 46 ∷ g) ≡ true
+below-fits b g = before-ends (b ∷ []) (46 ∷ g) (omega arith)
 
 reach : (x : HostPart) (p : PortPart) → GoodHost x p → Reach x
 reach noHost p e = reaches (97 ∷ []) letter-a refl
@@ -111,7 +108,7 @@ reach (subdomainsOf g) p e = go (ltb hostBytes (2 + length g)) refl
   where
     go : (b : Bool) → ltb hostBytes (2 + length g) ≡ b → Reach (subdomainsOf g)
     go true u = too-long g (ltb-true hostBytes (2 + length g) u)
-    go false u = reaches (97 ∷ 46 ∷ g) (below-a g e (ltb-false hostBytes (2 + length g) u)) (before-ends (97 ∷ []) (46 ∷ g) (omega arith))
+    go false u = reaches (97 ∷ 46 ∷ g) (letter-below 97 g refl e (ltb-false hostBytes (2 + length g) u)) (below-fits 97 g)
 
 ends-long : (g h : List ℕ) → endsIn (46 ∷ g) h ≡ true → 2 + length g ≤ length h
 ends-long g h e =
@@ -133,7 +130,7 @@ all-below g f = omega (arith, ends-long g (97 ∷ []) (f (97 ∷ []) letter-a re
 
 below-exact : (g h : List ℕ) → isHost h ≡ true → 2 + length h ≤ hostBytes → Within (subdomainsOf h) (exactHost g) → ⊥
 below-exact g h e m f =
-    heads-differ g (46 ∷ h) (f (97 ∷ 46 ∷ h) (below-a h e m) (before-ends (97 ∷ []) (46 ∷ h) (omega arith))) (f (98 ∷ 46 ∷ h) (below-b h e m) (before-ends (98 ∷ []) (46 ∷ h) (omega arith)))
+    heads-differ g (46 ∷ h) (f (97 ∷ 46 ∷ h) (letter-below 97 h refl e m) (below-fits 97 h)) (f (98 ∷ 46 ∷ h) (letter-below 98 h refl e m) (below-fits 98 h))
 
 ends-same : (g h : List ℕ) → length g ≡ length h → endsIn (46 ∷ h) (97 ∷ 46 ∷ g) ≡ true → g ≡ h
 unfolding endsIn
@@ -146,8 +143,8 @@ ends-same g h l e =
 
 below-below : (g h : List ℕ) → isHost g ≡ true → isHost h ≡ true → 2 + length g ≤ hostBytes → 2 + length h ≤ hostBytes → Within (subdomainsOf g) (subdomainsOf h) → Within (subdomainsOf h) (subdomainsOf g) → g ≡ h
 below-below g h a b m n to from =
-    let u : endsIn (46 ∷ h) (97 ∷ 46 ∷ g) ≡ true = to (97 ∷ 46 ∷ g) (below-a g a m) (before-ends (97 ∷ []) (46 ∷ g) (omega arith)) in
-    let v : endsIn (46 ∷ g) (97 ∷ 46 ∷ h) ≡ true = from (97 ∷ 46 ∷ h) (below-a h b n) (before-ends (97 ∷ []) (46 ∷ h) (omega arith)) in
+    let u : endsIn (46 ∷ h) (97 ∷ 46 ∷ g) ≡ true = to (97 ∷ 46 ∷ g) (letter-below 97 g refl a m) (below-fits 97 g) in
+    let v : endsIn (46 ∷ g) (97 ∷ 46 ∷ h) ≡ true = from (97 ∷ 46 ∷ h) (letter-below 97 h refl b n) (below-fits 97 h) in
     let l : length g ≡ length h = omega (arith, ends-long h (97 ∷ 46 ∷ g) u, ends-long g (97 ∷ 46 ∷ h) v) in
     ends-same g h l u
 
@@ -310,13 +307,9 @@ module _ (e f : SourceExpression) (g : GoodExpression e) (i : GoodExpression f) 
 below-none : (k : Scheme) (g : List ℕ) (p : PortPart) → NoneBelow g → (o : TupleOrigin) → GoodOrigin o → admits (below k g p) (tuple o) ≡ false
 below-none k g p m o d = go (endsIn (46 ∷ g) (o .host)) refl
   where
-    none : (a : Bool) → a && false ≡ false
-    none true = refl
-    none false = refl
-
     go : (b : Bool) → endsIn (46 ∷ g) (o .host) ≡ b → admits (below k g p) (tuple o) ≡ false
     go true u = absurd (omega (arith, ends-long g (o .host) u, origin-host-most (o .host) (d .host)))
-    go false u = rw (admits-apart (below k g p) o, u) (none (schemeAdmits k (o .scheme)))
+    go false u = rw (admits-apart (below k g p) o, u) (and-false (schemeAdmits k (o .scheme)))
 
 admitting : (f : SourceExpression) → GoodExpression f → (h : List ℕ) → isHost h ≡ true → hostFits (f .host) h ≡ true → (o : TupleOrigin) × (_ : GoodOrigin o) × (admits f (tuple o) ≡ true)
 admitting f i h u v =

@@ -52,14 +52,13 @@ matches-right : every right matches ≡ true
 unfolding computing
 matches-right = refl
 
--- R-3 of 02: every pair of scheme, port kind and host kind, against http origins at the ports 80, 443, 8080 and 8081, and against https origins at the same
-pub record Row : Type 0 where
-  pub expression : String
-  pub http : String
-  pub https : String
-
-abbrev row : String → String → String → Row
-row e a b = record { expression = e; http = a; https = b }
+-- R-3 of 02: every pair of scheme, port kind and host kind against http origins at the ports 80, 443, 8080 and 8081, and against https origins at the same.
+-- `y` if the expression admits the origin, `-` if not
+pub data Row : Type 0 where
+  -- of a host part that admits the host `a.example` and not `example`
+  ofHost : String → String → String → Row
+  -- of one that admits both, alike
+  ofAny : String → String → String → Row
 
 -- what follows the host in those origins' texts
 abbrev httpPorts : List String
@@ -68,72 +67,59 @@ httpPorts = "" ∷ ":443" ∷ ":8080" ∷ ":8081" ∷ []
 abbrev httpsPorts : List String
 httpsPorts = ":80" ∷ "" ∷ ":8080" ∷ ":8081" ∷ []
 
--- `y` if admitted, `-` if not
 abbrev mark : Option Bool → ℕ
 mark (some b) = pick b 121 45
-mark none = 63
+mark none = 0
 
 abbrev marks : String → String → String → List String → List ℕ
 marks e scheme host ports = map (λ p. mark (verdict (expressionOf (text e)) (originOf (text scheme ++ (text host ++ text p))))) ports
 
-abbrev rightAt : String → Row → Bool
-rightAt h r =
-    sameBytes (marks (r .expression) "http://" h httpPorts) (text (r .http)) && sameBytes (marks (r .expression) "https://" h httpsPorts) (text (r .https))
+abbrev marked : String → String → String → String → Bool
+marked e host a b = sameBytes (marks e "http://" host httpPorts) (text a) && sameBytes (marks e "https://" host httpsPorts) (text b)
 
--- the host is `a.example`
-abbrev hostRows : List Row
-hostRows =
-    row "http://a.example" "y---" "-y--"
-    ∷ row "http://a.example:80" "y---" "y---"
-    ∷ row "http://a.example:443" "-y--" "-y--"
-    ∷ row "http://a.example:8080" "--y-" "--y-"
-    ∷ row "http://a.example:*" "yyyy" "yyyy"
-    ∷ row "https://a.example" "----" "-y--"
-    ∷ row "https://a.example:80" "----" "y---"
-    ∷ row "https://a.example:443" "----" "-y--"
-    ∷ row "https://a.example:8080" "----" "--y-"
-    ∷ row "https://a.example:*" "----" "yyyy"
-    ∷ row "http://*.example" "y---" "-y--"
-    ∷ row "http://*.example:80" "y---" "y---"
-    ∷ row "http://*.example:443" "-y--" "-y--"
-    ∷ row "http://*.example:8080" "--y-" "--y-"
-    ∷ row "http://*.example:*" "yyyy" "yyyy"
-    ∷ row "https://*.example" "----" "-y--"
-    ∷ row "https://*.example:80" "----" "y---"
-    ∷ row "https://*.example:443" "----" "-y--"
-    ∷ row "https://*.example:8080" "----" "--y-"
-    ∷ row "https://*.example:*" "----" "yyyy"
+abbrev rowRight : Row → Bool
+rowRight (ofHost e a b) = marked e "a.example" a b && marked e "example" "----" "----"
+rowRight (ofAny e a b) = marked e "a.example" a b && marked e "example" a b
+
+abbrev table : List Row
+table =
+    ofHost "http://a.example" "y---" "-y--"
+    ∷ ofHost "http://a.example:80" "y---" "y---"
+    ∷ ofHost "http://a.example:443" "-y--" "-y--"
+    ∷ ofHost "http://a.example:8080" "--y-" "--y-"
+    ∷ ofHost "http://a.example:*" "yyyy" "yyyy"
+    ∷ ofHost "https://a.example" "----" "-y--"
+    ∷ ofHost "https://a.example:80" "----" "y---"
+    ∷ ofHost "https://a.example:443" "----" "-y--"
+    ∷ ofHost "https://a.example:8080" "----" "--y-"
+    ∷ ofHost "https://a.example:*" "----" "yyyy"
+    ∷ ofHost "http://*.example" "y---" "-y--"
+    ∷ ofHost "http://*.example:80" "y---" "y---"
+    ∷ ofHost "http://*.example:443" "-y--" "-y--"
+    ∷ ofHost "http://*.example:8080" "--y-" "--y-"
+    ∷ ofHost "http://*.example:*" "yyyy" "yyyy"
+    ∷ ofHost "https://*.example" "----" "-y--"
+    ∷ ofHost "https://*.example:80" "----" "y---"
+    ∷ ofHost "https://*.example:443" "----" "-y--"
+    ∷ ofHost "https://*.example:8080" "----" "--y-"
+    ∷ ofHost "https://*.example:*" "----" "yyyy"
+    ∷ ofAny "http://*" "y---" "-y--"
+    ∷ ofAny "http://*:80" "y---" "y---"
+    ∷ ofAny "http://*:443" "-y--" "-y--"
+    ∷ ofAny "http://*:8080" "--y-" "--y-"
+    ∷ ofAny "http://*:*" "yyyy" "yyyy"
+    ∷ ofAny "https://*" "----" "-y--"
+    ∷ ofAny "https://*:80" "----" "y---"
+    ∷ ofAny "https://*:443" "----" "-y--"
+    ∷ ofAny "https://*:8080" "----" "--y-"
+    ∷ ofAny "https://*:*" "----" "yyyy"
+    ∷ ofAny "http:" "yyyy" "yyyy"
+    ∷ ofAny "https:" "----" "yyyy"
     ∷ []
 
--- the host is any
-abbrev anyHostRows : List Row
-anyHostRows =
-    row "http://*" "y---" "-y--"
-    ∷ row "http://*:80" "y---" "y---"
-    ∷ row "http://*:443" "-y--" "-y--"
-    ∷ row "http://*:8080" "--y-" "--y-"
-    ∷ row "http://*:*" "yyyy" "yyyy"
-    ∷ row "https://*" "----" "-y--"
-    ∷ row "https://*:80" "----" "y---"
-    ∷ row "https://*:443" "----" "-y--"
-    ∷ row "https://*:8080" "----" "--y-"
-    ∷ row "https://*:*" "----" "yyyy"
-    ∷ row "http:" "yyyy" "yyyy"
-    ∷ row "https:" "----" "yyyy"
-    ∷ []
-
-host-rows-right : every (rightAt "a.example") hostRows ≡ true
+table-right : every rowRight table ≡ true
 unfolding computing
-host-rows-right = refl
-
-any-host-rows-right : every (rightAt "a.example") anyHostRows && every (rightAt "example") anyHostRows ≡ true
-unfolding computing
-any-host-rows-right = refl
-
--- of another host, what names a host admits none
-host-rows-elsewhere : every (λ r. rightAt "example" (row (r .expression) "----" "----")) hostRows ≡ true
-unfolding computing
-host-rows-elsewhere = refl
+table-right = refl
 
 -- texts, and whether they say a tuple origin
 abbrev isTuple : OriginSaid → Bool

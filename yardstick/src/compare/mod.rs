@@ -3,6 +3,7 @@
 pub mod model;
 pub mod other;
 pub mod random;
+pub mod schemes;
 pub mod session;
 pub mod shrink;
 pub mod tally;

@@ -1,9 +1,12 @@
 //! What the answers so far say about the table: enough to aim calls at it.
 
-use crate::attributes::{container_policy, features_by_keyword, sandboxes};
+use crate::allowlist::Allowlist;
+use crate::attributes::{container_policy, features_by_keyword, sandboxes, ContainerPolicy};
+use crate::expressions::SourceExpression;
 use crate::features::FEATURE_COUNT;
-use crate::origins::Origin;
-use crate::replay;
+use crate::header::DeclaredPolicy;
+use crate::origins::{Origin, OriginText};
+use crate::replay::{self, Call, FrameFields};
 
 /// What a frame with a sandbox attribute of its own says of the features.
 #[derive(Clone, Copy, Debug)]
@@ -44,9 +47,26 @@ pub struct Known {
     /// How many levels it is beneath the nearest document whose frame has a
     /// sandbox attribute; nothing if there is none above.
     pub beneath_sandbox: Option<usize>,
+    /// Every opaque origin is a fresh one here.
+    pub origin: Origin<'static>,
+    /// What its header declares.
+    pub declared: [Option<Allowlist>; FEATURE_COUNT],
+    /// What its frame's allow attribute says, if it has no sandbox attribute.
+    pub allow: ContainerPolicy,
 }
 
 impl Known {
+    /// The features and expressions of its header.
+    pub fn expressions(&self) -> Vec<(usize, &SourceExpression)> {
+        let mut found = Vec::new();
+        for (feature, list) in self.declared.iter().enumerate() {
+            if let Some(Allowlist::Listed { expressions, .. }) = list {
+                found.extend(expressions.iter().map(|e| (feature, e)));
+            }
+        }
+        found
+    }
+
     /// Whether its frame or one above has a sandbox attribute.
     pub fn in_sandbox(&self) -> bool {
         self.own_sandbox.is_some() || self.beneath_sandbox.is_some()
@@ -93,6 +113,33 @@ impl Model {
         }
     }
 
+    /// The origin that a text means; an empty one means this document's. Every
+    /// opaque origin is a fresh one here.
+    pub fn origin_of(&self, text: &[u8], empty: Option<u32>) -> Origin<'static> {
+        match OriginText::parse(text) {
+            Some(OriginText::Tuple(tuple)) => Origin::Tuple(tuple).into_owned(),
+            Some(OriginText::Empty) => empty
+                .and_then(|serial| self.get(serial))
+                .map_or(Origin::FreshOpaque, |d| d.origin.clone()),
+            _ => Origin::FreshOpaque,
+        }
+    }
+
+    /// What the allow attribute of a frame without a sandbox attribute says.
+    pub fn allow_of(&self, frame: &FrameFields) -> ContainerPolicy {
+        if frame.sandbox.is_some() {
+            return ContainerPolicy::default();
+        }
+        let container = Some(frame.container);
+        container_policy(
+            &frame.allow,
+            frame.allowfullscreen,
+            None,
+            &self.origin_of(b"", container),
+            &self.origin_of(&frame.src, container),
+        )
+    }
+
     /// Takes note of a call and its answer.
     pub fn observe(&mut self, line: &[u8], answer: &[u8], sandboxed: bool) {
         if let Some(rest) = answer.strip_prefix(b"loaded ") {
@@ -108,6 +155,19 @@ impl Model {
                 .and_then(|c| self.get(c))
                 .map_or(0, |c| c.depth + 1);
             let beneath_sandbox = container.and_then(|c| self.levels_beneath_sandbox(c));
+            let (origin, header, allow) = match Call::parse(line) {
+                Some(Call::Top { origin, header }) => (origin, header, Default::default()),
+                Some(Call::Frame {
+                    element,
+                    origin,
+                    header,
+                }) => (origin, header, self.allow_of(&element)),
+                _ => return,
+            };
+            let origin = self.origin_of(&origin, container);
+            let declared = DeclaredPolicy::parse(&header)
+                .unwrap_or_default()
+                .settle(&origin);
             self.last_serial = serial;
             self.live.push(Known {
                 serial,
@@ -116,6 +176,9 @@ impl Model {
                 sandboxed,
                 own_sandbox: SandboxedFrame::of_line(line),
                 beneath_sandbox,
+                origin,
+                declared,
+                allow,
             });
         } else if answer.starts_with(b"unloaded ") {
             let Some(serial) = parse_number(field(line, 1)) else {

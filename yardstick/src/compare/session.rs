@@ -6,6 +6,7 @@ use super::texts::{self, Mood, OriginShares, Sandbox};
 use super::Session;
 use crate::features::FEATURE_COUNT;
 use crate::limits::{MAX_DOCUMENTS, MAX_TIDIED_BYTES};
+use crate::origins::Origin;
 use crate::replay;
 use crate::table::Table;
 use crate::tidy::tidy;
@@ -204,6 +205,26 @@ impl Generator {
     }
 
     fn frame(&mut self) -> (Vec<u8>, bool) {
+        if self.random.percent(25) {
+            if let Some((container, origin, allow)) = self.frame_about_expressions() {
+                let header = if self.random.percent(70) {
+                    Vec::new()
+                } else {
+                    texts::header(&mut self.random, &self.style.mood)
+                };
+                let src = self.src();
+                let fields = [
+                    container.to_string().into_bytes(),
+                    self.text(&origin),
+                    self.text(&src),
+                    self.flag(),
+                    self.text(&allow),
+                    b"0".to_vec(),
+                    self.text(&header),
+                ];
+                return (line("frame", &fields), false);
+            }
+        }
         let sandbox = self.sandbox();
         let container = self.container_beside(&sandbox);
         let sandboxed = sandbox.as_ref().is_some_and(|s| !s.same_origin);
@@ -241,6 +262,18 @@ impl Generator {
     }
 
     fn forecast(&mut self) -> Vec<u8> {
+        if self.random.percent(25) {
+            if let Some((container, src, allow)) = self.frame_about_expressions() {
+                let fields = [
+                    container.to_string().into_bytes(),
+                    self.text(&src),
+                    self.flag(),
+                    self.text(&allow),
+                    b"0".to_vec(),
+                ];
+                return line("forecast", &fields);
+            }
+        }
         let sandbox = self.sandbox();
         let container = self.container_beside(&sandbox);
         let src = self.src();
@@ -271,6 +304,11 @@ impl Generator {
     }
 
     fn ask(&mut self) -> Vec<u8> {
+        if self.random.percent(40) {
+            if let Some(line) = self.ask_near_header() {
+                return line;
+            }
+        }
         let serial = self.serial();
         let feature = if self.random.percent(self.style.bad_features) {
             *self
@@ -295,6 +333,27 @@ impl Generator {
             self.text(&origin),
         ];
         line("ask", &fields)
+    }
+
+    /// A question about a feature whose declared list has an expression, at an
+    /// origin near it; mostly in a top-level document, which inherits Enabled.
+    fn ask_near_header(&mut self) -> Option<Vec<u8>> {
+        let only_top = self.random.percent(75);
+        let wanted = |d: &Known| (d.depth == 0 || !only_top) && !d.expressions().is_empty();
+        let documents = self.where_known(|_, d| wanted(d));
+        if documents.is_empty() {
+            return None;
+        }
+        let serial = *self.random.pick(&documents);
+        let expressions = self.model.get(serial)?.expressions();
+        let (feature, expression) = *self.random.pick(&expressions);
+        let origin = texts::origin_near(&mut self.random, expression);
+        let fields = [
+            serial.to_string().into_bytes(),
+            feature.to_string().into_bytes(),
+            self.text(&origin),
+        ];
+        Some(line("ask", &fields))
     }
 
     fn enabled(&mut self) -> Vec<u8> {
@@ -402,6 +461,22 @@ impl Generator {
             bad: self.style.bad_origins,
         };
         texts::origin_text(&mut self.random, &self.style.mood, shares)
+    }
+
+    /// The container of a frame, mostly a top-level document, the origin for
+    /// which it is judged, and an allow attribute with expressions about that.
+    fn frame_about_expressions(&mut self) -> Option<(u32, Vec<u8>, Vec<u8>)> {
+        let only_top = self.random.percent(75);
+        let wanted =
+            |d: &Known| (d.depth == 0 || !only_top) && matches!(d.origin, Origin::Tuple(_));
+        let containers = self.where_known(|_, d| wanted(d));
+        if containers.is_empty() {
+            return None;
+        }
+        let container = *self.random.pick(&containers);
+        let origin = texts::origin_of_either_scheme(&mut self.random, &self.style.mood);
+        let allow = texts::allow_about(&mut self.random, &origin);
+        Some((container, origin.into_bytes(), allow))
     }
 
     fn flag(&mut self) -> Vec<u8> {

@@ -3,6 +3,7 @@
 use std::collections::BTreeMap;
 
 use super::model::{field, parse_number, Known, Model, SandboxedFrame};
+use super::schemes::SchemeCases;
 use crate::features::{default_is_all, FEATURES, FEATURE_COUNT, PLUGINS};
 
 #[derive(Clone, Debug, Default)]
@@ -22,6 +23,8 @@ pub struct Tally {
     /// Numbers of a frame with a sandbox attribute that have some of the ten
     /// features and lack some.
     some_of_ten: BTreeMap<Asked, u64>,
+    /// R-3's cases.
+    schemes: SchemeCases,
 }
 
 /// Whether an answer is about a loaded document or is a forecast.
@@ -93,6 +96,7 @@ impl Tally {
         if kind == "bad line" {
             return;
         }
+        self.schemes.observe(model, line, answer);
         let name = String::from_utf8_lossy(field(line, 0)).into_owned();
         if kind.starts_with("refused") {
             let refused = format!("{name} {kind}");
@@ -243,6 +247,7 @@ impl Tally {
                 println!("  Enabled by allow-{}: {count}", FEATURES[feature].name);
             }
         }
+        self.schemes.print();
     }
 
     /// What is too rare; empty if the sessions bite.
@@ -257,6 +262,7 @@ impl Tally {
             }
         }
         lacks.extend(self.sandbox_lacks(wanted));
+        lacks.extend(self.schemes.lacks(self.calls));
         let deep = self.deep_enabled + self.deep_disabled;
         for (name, count) in [
             ("Enabled", self.deep_enabled),

@@ -3,10 +3,12 @@
 
 use super::random::Random;
 use crate::attributes::features_by_keyword;
+use crate::expressions::{HostPart, PortPart, SourceExpression};
 use crate::features::{default_is_all, FEATURES, FEATURE_COUNT, PLUGINS};
 use crate::limits::{
     MAX_FRACTION_DIGITS, MAX_HOST_BYTES, MAX_INTEGER_DIGITS, MAX_TEXT_BYTES, MAX_WHOLE_DIGITS,
 };
+use crate::origins::is_host;
 
 /// What the texts of one session tend to.
 #[derive(Clone, Debug)]
@@ -52,6 +54,11 @@ impl Mood {
         ];
         for _ in 0..random.between(1, 3) {
             origins.push(pool_origin(random));
+        }
+        // Mostly one host in all of R-3's origins.
+        if random.percent(60) {
+            let host = random.word(&HOSTS);
+            origins.extend(origins_of_host(random, host));
         }
         Mood {
             features,
@@ -173,6 +180,65 @@ fn pool_origin(random: &mut Random) -> String {
         _ => "",
     };
     format!("{scheme}://{}{port}", random.pick(&HOSTS))
+}
+
+/// Both schemes at their default port, at the other's and at another.
+fn origins_of_host(random: &mut Random, host: &str) -> Vec<String> {
+    let other = random.word(&[":8080", ":444", ":0", ":65535"]);
+    vec![
+        format!("http://{host}"),
+        format!("https://{host}"),
+        format!("http://{host}:443"),
+        format!("https://{host}:80"),
+        format!("http://{host}{other}"),
+        format!("https://{host}{other}"),
+    ]
+}
+
+/// A good origin text, mostly one of R-3's kinds, each as often as the others.
+pub fn origin_of_either_scheme(random: &mut Random, mood: &Mood) -> String {
+    if random.percent(30) {
+        return good_origin(random, mood);
+    }
+    let host = random.word(&HOSTS);
+    let origins = origins_of_host(random, host);
+    random.pick(&origins).clone()
+}
+
+/// An origin that the expression admits, or that only its scheme or its port
+/// keeps out.
+pub fn origin_near(random: &mut Random, expression: &SourceExpression) -> Vec<u8> {
+    let (host, port) = match expression {
+        SourceExpression::SchemeOnly(_) => (&HostPart::Any, PortPart::Any),
+        SourceExpression::Full { host, port, .. } => (host, *port),
+    };
+    let host = match host {
+        HostPart::Any => random.word(&HOSTS).to_string(),
+        HostPart::Exact(host) => String::from_utf8_lossy(host).into_owned(),
+        HostPart::Beneath(host) => {
+            let host = String::from_utf8_lossy(host);
+            let beneath = format!("{}.{host}", random.pick(&["x", "a", "sub", "x.sub"]));
+            if is_host(beneath.as_bytes()) {
+                beneath
+            } else {
+                host.into_owned()
+            }
+        }
+    };
+    let scheme = random.word(&["http", "https", "https"]);
+    let port = match (random.below(12), port) {
+        (0..=2, PortPart::One(port)) => port,
+        (0..=3, _) if scheme == "http" => 80,
+        (0..=3, _) => 443,
+        (4..=6, _) => 80,
+        (7..=8, _) => 443,
+        _ => *random.pick(&[8080, 444, 0, 65535]),
+    };
+    match (scheme, port) {
+        ("http", 80) | ("https", 443) => format!("{scheme}://{host}"),
+        _ => format!("{scheme}://{host}:{port}"),
+    }
+    .into_bytes()
 }
 
 /// A good origin text that is neither `null` nor empty.
@@ -304,15 +370,18 @@ pub fn expression(random: &mut Random, mood: &Mood) -> Vec<u8> {
         return near_expression(random, mood);
     }
     let origin = good_origin(random, mood);
+    if random.percent(40) {
+        return expression_about(random, &origin).into_bytes();
+    }
     let (scheme, rest) = origin.split_once("://").unwrap_or(("https", "a.example"));
     let (host, port) = match rest.split_once(':') {
         Some((host, port)) => (host, Some(port)),
         None => (rest, None),
     };
-    let scheme = if random.percent(15) {
-        *random.pick(&["http", "https"])
-    } else {
-        scheme
+    let scheme = match random.below(100) {
+        0..=24 => "http",
+        25..=39 => "https",
+        _ => scheme,
     };
     let text = if random.percent(7) {
         format!("{scheme}:")
@@ -336,20 +405,70 @@ pub fn expression(random: &mut Random, mood: &Mood) -> Vec<u8> {
     maybe_mixed_case(random, &text).into_bytes()
 }
 
+/// An expression that admits the origin, or that only its scheme or its port
+/// keeps from it: each kind of R-3 about as often as the others.
+fn expression_about(random: &mut Random, origin: &str) -> String {
+    let (_, rest) = origin.split_once("://").unwrap_or(("https", "a.example"));
+    let (host, port) = rest.split_once(':').unwrap_or((rest, "8080"));
+    let scheme = random.word(&["http", "http", "https"]);
+    let host_part = match (random.below(12), host.split_once('.')) {
+        (0, _) => return maybe_mixed_case(random, &format!("{scheme}:")),
+        (1..=3, _) => "*".to_string(),
+        (4..=6, Some((_, parent))) => format!("*.{parent}"),
+        _ => host.to_string(),
+    };
+    let port = match random.below(12) {
+        0..=2 => String::new(),
+        3..=5 => written_port(random, "80"),
+        6..=7 => written_port(random, "443"),
+        8..=9 => written_port(random, port),
+        _ => ":*".to_string(),
+    };
+    maybe_mixed_case(random, &format!("{scheme}://{host_part}{port}"))
+}
+
 /// The port of an expression, mostly one that admits the port given.
 fn port_part(random: &mut Random, scheme: &str, port: Option<&str>) -> String {
     let default = if scheme == "http" { "80" } else { "443" };
     match (random.below(20), port) {
         (0..=2, _) => ":*".to_string(),
         (3, _) => format!(":{}", random.pick(GOOD_PORTS)),
-        (4..=6, Some(_)) | (4..=15, None) => String::new(),
-        (_, _) => {
-            let port = port.unwrap_or(default);
-            let zeros = random.below(6usize.saturating_sub(port.len()));
-            let zeros = if random.percent(60) { 0 } else { zeros };
-            format!(":{}{port}", "0".repeat(zeros))
+        // One of the two default ports.
+        (4..=6, _) => {
+            let port = random.word(&["80", "443"]);
+            written_port(random, port)
         }
+        (7..=9, Some(_)) | (7..=16, None) => String::new(),
+        (_, _) => written_port(random, port.unwrap_or(default)),
     }
+}
+
+/// `:` and the port, now and then with leading zeros.
+fn written_port(random: &mut Random, port: &str) -> String {
+    let zeros = random.below(6usize.saturating_sub(port.len()));
+    let zeros = if random.percent(60) { 0 } else { zeros };
+    format!(":{}{port}", "0".repeat(zeros))
+}
+
+/// An expression of a list once more, with another port or scheme: one that
+/// tidying takes for the same or that differs by just that.
+fn expression_again(random: &mut Random, earlier: &str) -> String {
+    let Some((scheme, rest)) = earlier.split_once("://") else {
+        return earlier.to_string();
+    };
+    let host = rest.split(':').next().unwrap_or(rest);
+    let scheme = match random.below(6) {
+        0 => "http",
+        1 => "https",
+        _ => scheme,
+    };
+    let port = match (random.below(8), scheme) {
+        (0..=2, _) => String::new(),
+        (3..=5, "https") | (6, "http") => written_port(random, "443"),
+        (3..=6, _) => written_port(random, "80"),
+        _ => random.word(&[":*", ":8080", ":0"]).to_string(),
+    };
+    format!("{scheme}://{host}{port}")
 }
 
 const GOOD_PORTS: &[&str] = &[
@@ -667,6 +786,15 @@ fn inner_list(random: &mut Random, mood: &Mood) -> String {
         let item = if !items.is_empty() && random.percent(15) {
             let earlier = random.pick(&items).clone();
             maybe_mixed_case(random, &earlier)
+        } else if !items.is_empty() && random.percent(30) {
+            // Or the one before with another port.
+            match items
+                .last()
+                .and_then(|i| i.strip_prefix('"')?.strip_suffix('"'))
+            {
+                Some(earlier) => format!("\"{}\"", expression_again(random, earlier)),
+                None => list_item(random, mood),
+            }
         } else {
             list_item(random, mood)
         };
@@ -835,7 +963,9 @@ fn header_that_grows(random: &mut Random) -> Vec<u8> {
             .map(|&f| FEATURES[f].name.len() + "=self,".len())
             .sum();
         let room = length.saturating_sub(text.len() + rest);
-        let frame = "=\"https://\"".len();
+        // Tidying keeps these as they are.
+        let (scheme, port) = *random.pick(&[("https", ""), ("http", ""), ("http", ":80")]);
+        let frame = format!("=\"{scheme}://{port}\"").len();
         if room > frame {
             let wanted = (room - frame).min(MAX_HOST_BYTES);
             let wanted = if index + 1 < members && wanted == room - frame && wanted > 20 {
@@ -843,7 +973,7 @@ fn header_that_grows(random: &mut Random) -> Vec<u8> {
             } else {
                 wanted
             };
-            text.push_str(&format!("=\"https://{}\"", long_host(wanted)));
+            text.push_str(&format!("=\"{scheme}://{}{port}\"", long_host(wanted)));
         } else {
             text.push_str("=self");
         }
@@ -888,8 +1018,30 @@ pub fn header_to_tidy(random: &mut Random, mood: &Mood) -> Vec<u8> {
             dictionary(random, &everything).into_bytes()
         }
         2..=4 => flawed_dictionary(random, mood).into_bytes(),
+        5..=7 => header_of_doubles(random, mood).into_bytes(),
         _ => header(random, mood),
     }
+}
+
+/// Lists of expressions that differ by port or scheme only, or not even by that.
+fn header_of_doubles(random: &mut Random, mood: &Mood) -> String {
+    let mut members = Vec::new();
+    for _ in 0..random.between(1, 3) {
+        let origin = good_origin(random, mood);
+        let first = expression_about(random, &origin);
+        let mut items = vec![quoted(&first)];
+        for _ in 0..random.between(1, 4) {
+            let again = expression_again(random, &first);
+            let again = maybe_mixed_case(random, &again);
+            items.push(quoted(&again));
+        }
+        if random.percent(20) {
+            items.insert(random.below(items.len() + 1), "self".to_string());
+        }
+        let name = feature_name(random, mood);
+        members.push(format!("{name}=({})", items.join(" ")));
+    }
+    members.join(comma(random))
 }
 
 // ----------------------------------------------------------- attributes
@@ -987,6 +1139,22 @@ pub fn allow(random: &mut Random, mood: &Mood) -> Vec<u8> {
     let mut text = allow_pieces(random, mood);
     if random.percent(mood.damage) {
         damage(random, &mut text);
+    }
+    text
+}
+
+/// An allow attribute with expressions about this origin for several features.
+pub fn allow_about(random: &mut Random, origin: &str) -> Vec<u8> {
+    let mut text = Vec::new();
+    for _ in 0..random.between(2, 8) {
+        if !text.is_empty() {
+            text.extend_from_slice(random.word(&[";", "; ", " ;\n"]).as_bytes());
+        }
+        text.extend_from_slice(FEATURES[random.below(FEATURE_COUNT)].name.as_bytes());
+        for _ in 0..*random.pick(&[1, 1, 1, 2, 2, 3]) {
+            text.extend_from_slice(whitespace(random).as_bytes());
+            text.extend_from_slice(expression_about(random, origin).as_bytes());
+        }
     }
     text
 }
@@ -1235,9 +1403,9 @@ fn sandbox_padding(random: &mut Random, mood: &Mood, length: usize) -> Vec<u8> {
 #[cfg(test)]
 mod tests {
     use super::*;
-    use crate::fields::parse_dictionary;
-    use crate::header::DeclaredPolicy;
-    use crate::origins::OriginText;
+    use crate::fields::{parse_dictionary, BareItem, MemberValue};
+    use crate::header::{DeclaredList, DeclaredPolicy};
+    use crate::origins::{Origin, OriginText};
     use crate::tidy::tidied_form;
 
     fn many(mut test: impl FnMut(&mut Random, &Mood)) {
@@ -1276,6 +1444,27 @@ mod tests {
     }
 
     #[test]
+    fn expressions_about_an_origin() {
+        let mut answers = [0; 2];
+        many(|random, mood| {
+            let text = origin_of_either_scheme(random, mood);
+            let parsed = OriginText::parse(text.as_bytes());
+            let Some(OriginText::Tuple(tuple)) = parsed else {
+                panic!("{text}");
+            };
+            let about = expression_about(random, &text);
+            let expression = SourceExpression::parse(about.as_bytes()).expect("an expression");
+            answers[usize::from(expression.admits(&Origin::Tuple(tuple)))] += 1;
+            let again = expression_again(random, &about);
+            assert!(
+                SourceExpression::parse(again.as_bytes()).is_some(),
+                "{again}"
+            );
+        });
+        assert!(answers.iter().all(|&count| count > 1000), "{answers:?}");
+    }
+
+    #[test]
     fn tidied_forms_at_the_limit() {
         let mut lengths = [0; 3];
         many(|random, _| {
@@ -1291,6 +1480,65 @@ mod tests {
             }
         });
         assert!(lengths.iter().all(|&count| count > 100), "{lengths:?}");
+    }
+
+    /// The expressions of each member of a list, every double included.
+    fn expressions_of(value: &MemberValue) -> Vec<SourceExpression> {
+        let items: Vec<&BareItem> = match value {
+            MemberValue::Item(item) => vec![item],
+            MemberValue::InnerList(items) => items.iter().map(|i| &i.value).collect(),
+        };
+        let parse = |item: &BareItem| match item {
+            BareItem::String(text) => SourceExpression::parse(text),
+            _ => None,
+        };
+        items.into_iter().filter_map(parse).collect()
+    }
+
+    /// Demand 2 over R-3: "a tidied header, read again, declares the same
+    /// policy and tidies to the same bytes".
+    #[test]
+    fn a_tidied_header_read_again() {
+        let (mut answers, mut ports) = ([0; 2], 0);
+        many(|random, mood| {
+            let header = header_to_tidy(random, mood);
+            let Ok(policy) = DeclaredPolicy::parse(&header) else {
+                return;
+            };
+            let tidied = tidied_form(&policy);
+            let again = DeclaredPolicy::parse(&tidied).expect("a dictionary");
+            assert_eq!(again, policy);
+            assert_eq!(tidied_form(&again), tidied);
+            ports += usize::from(tidied.windows(4).any(|w| w == b":80\""));
+            let own = Origin::FreshOpaque;
+            let lists = again.settle(&own);
+            // As the header was written, before anything was tidied away.
+            for member in parse_dictionary(&header).expect("a dictionary") {
+                let Some(feature) = crate::features::feature_by_name(&member.key) else {
+                    continue;
+                };
+                let expressions = expressions_of(&member.value);
+                let all = policy.lists[feature] == Some(DeclaredList::All);
+                for _ in 0..20 {
+                    let text = if expressions.is_empty() || random.percent(20) {
+                        good_origin(random, mood).into_bytes()
+                    } else {
+                        let expression = random.pick(&expressions).clone();
+                        origin_near(random, &expression)
+                    };
+                    let Some(OriginText::Tuple(tuple)) = OriginText::parse(&text) else {
+                        panic!("{}", text.escape_ascii());
+                    };
+                    let origin = Origin::Tuple(tuple);
+                    let before = all || expressions.iter().any(|e| e.admits(&origin));
+                    let after = lists[feature].as_ref().is_some_and(|l| l.admits(&origin));
+                    assert_eq!(before, after, "{}", header.escape_ascii());
+                    answers[usize::from(after)] += 1;
+                }
+            }
+        });
+        assert!(answers.iter().all(|&count| count > 5000), "{answers:?}");
+        assert!(ports > 100, "{ports}");
     }
 
     #[test]

@@ -1,5 +1,5 @@
-//! The cases of document 01, the refusal table with its order, and R-1 with the
-//! examples of document 001.
+//! The cases of document 01, the refusal table with its order, R-1 with the
+//! examples of document 001, and R-3.
 
 use super::*;
 use crate::compare::random::Random;
@@ -571,6 +571,93 @@ fn an_added_keyword_takes_nothing_away() {
         }
     }
     assert!(gained > 500, "{gained}");
+}
+
+// --------------------------------------------------------------- R-3
+
+/// "`http:` and `http://...` admit https origins too" in headers, for the page
+/// itself and for the frames in it.
+#[test]
+fn pages_that_moved_to_https() {
+    let camera = set(&[CAMERA]);
+    for (expression, features) in [
+        ("http:", camera),
+        ("http://b.example", camera),
+        ("http://*.example", camera),
+        ("http://*", camera),
+        ("http://b.example:*", camera),
+        ("http://b.example:443", camera),
+        ("http://b.example:80", 0),
+        ("http://*:80", 0),
+        ("http://b.example:8080", 0),
+        ("http://c.example", 0),
+        ("https://b.example:80", 0),
+    ] {
+        let header = format!("camera=(self \"{expression}\")");
+        let allow = format!("camera {expression}");
+        for (header, allow) in [
+            (header.as_str(), "camera"),
+            ("", allow.as_str()),
+            (header.as_str(), allow.as_str()),
+        ] {
+            let frame = Case { allow, ..case(1) };
+            let bits = features_in(header, frame);
+            assert_eq!(bits & camera, features, "{header} {allow}");
+        }
+        let table = container(&header);
+        assert_eq!(ask(&table, 1, CAMERA, B), features != 0, "{header}");
+    }
+}
+
+/// An https expression admits no http origin.
+#[test]
+fn pages_that_did_not_move() {
+    let plain = "http://b.example";
+    for expression in ["https:", "https://b.example", "https://b.example:*"] {
+        let header = format!("camera=(self \"{expression}\")");
+        let table = container(&header);
+        assert!(!ask(&table, 1, CAMERA, plain), "{header}");
+        let allow = format!("camera {expression}");
+        let frame = Case {
+            origin: plain,
+            src: plain,
+            allow: &allow,
+            ..case(1)
+        };
+        assert!(!enabled_in("", frame, CAMERA), "{allow}");
+    }
+}
+
+/// Only expressions admit https for http: `self`, `'self'`, `'src'` and the
+/// default self are origins, and "holds that origin" is as before.
+#[test]
+fn an_http_origin_is_no_expression() {
+    let plain = "http://a.example";
+    for header in ["", "camera=self"] {
+        let mut table = Table::new();
+        assert_eq!(top(&mut table, plain, header), Ok(1));
+        assert!(ask(&table, 1, CAMERA, ""));
+        assert!(ask(&table, 1, CAMERA, plain));
+        assert!(!ask(&table, 1, CAMERA, A));
+    }
+    for (allow, enabled) in [
+        ("", false),
+        ("camera", false),
+        ("camera 'self'", false),
+        ("camera 'src'", false),
+        ("camera http://a.example", true),
+    ] {
+        let mut table = Table::new();
+        assert_eq!(top(&mut table, plain, ""), Ok(1));
+        let moved = Case {
+            origin: A,
+            src: plain,
+            allow,
+            ..case(1)
+        };
+        let serial = moved.load(&mut table).expect("accepted");
+        assert_eq!(ask(&table, serial, CAMERA, ""), enabled, "{allow}");
+    }
 }
 
 #[test]
