@@ -64,7 +64,7 @@ fn questions(r: &mut Rng, headers: &[(usize, String)], lists: &[[Option<Allowlis
         if let Some(Allowlist::Listed { expressions, .. }) = &lists[document][feature] {
             if !expressions.is_empty() && r.below(2) == 0 {
                 let e = &expressions[r.below(expressions.len())];
-                https = e.scheme == Scheme::Https;
+                https = e.scheme == Scheme::Https || r.below(2) == 0;
                 match &e.host { Host::Exact(h) => host = h.clone().into_bytes(), Host::Subdomains(h) => host = format!("x.{h}").into_bytes(), _ => {} }
                 port = match e.port { Port::Number(n) => n as u32, _ => if https { 443 } else { 80 } };
                 if r.below(4) == 0 { host[0] ^= 1; }

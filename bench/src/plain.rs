@@ -49,7 +49,7 @@ pub fn expression(s: &[u8]) -> Option<Expression> {
 
 impl Expression {
     pub fn admits(&self, o: &Origin) -> bool {
-        if self.scheme != o.scheme { return false; }
+        if self.scheme == Scheme::Https && o.scheme == Scheme::Http { return false; }
         let port = || match self.port { Port::Default => o.port == if o.scheme == Scheme::Http { 80 } else { 443 }, Port::Any => true, Port::Number(n) => n == o.port };
         match &self.host {
             Host::None => true,

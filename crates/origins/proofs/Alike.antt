@@ -29,7 +29,7 @@ use Rattle.origins.specs.declared.Scheme.{Scheme}
 use Rattle.origins.specs.declared.Scheme.the-variants.{Http, Https}
 use Rattle.origins.specs.declared.PortPart.{PortPart}
 use Rattle.origins.specs.declared.PortPart.the-variants.{Default, Any, Number}
-use Rattle.origins.proofs.Laws.{host-most, host-origin, origin-host-most, letter-below, ends-before, before-ends, expression-back, admits-parts, admits-any-port, form-parts, normal-good, normal-admits, default-dropped, default-most}
+use Rattle.origins.proofs.Laws.{host-most, host-origin, origin-host-most, letter-below, ends-before, before-ends, expression-back, scheme-own, schemes-one, admits-parts, admits-any-port, form-parts, normal-good, normal-admits, default-dropped, default-most}
 
 -- ---- the same normal form: the same origins
 
@@ -66,21 +66,9 @@ host-apart (subdomainsOf g) p o = refl
 admits-apart : (e : SourceExpression) (o : TupleOrigin) → admits e (tuple o) ≡ fits e o
 admits-apart e o = rw (admits-parts e o, host-apart (e .host) (e .port) o)
 
--- ---- schemes
-
-scheme-own : (k : Scheme) → schemeAdmits k k ≡ true
-scheme-own Http = refl
-scheme-own Https = refl
-
-schemes-one : (k j : Scheme) → schemeAdmits k j ≡ true → schemeAdmits j k ≡ true → k ≡ j
-schemes-one Http Http a b = refl
-schemes-one Http Https a b = clash cc
-schemes-one Https Http a b = clash cc
-schemes-one Https Https a b = refl
-
 -- ---- hosts
 
--- the hosts of texts that the one part admits, the other admits too
+-- of the hosts that texts can say, those that the one part admits the other admits too
 abbrev Within : HostPart → HostPart → Type 0
 Within x y = (h : List ℕ) → isHost h ≡ true → hostFits x h ≡ true → hostFits y h ≡ true
 
@@ -148,7 +136,7 @@ below-below g h a b m n to from =
     let l : length g ≡ length h = omega (arith, ends-long h (97 ∷ 46 ∷ g) u, ends-long g (97 ∷ 46 ∷ h) v) in
     ends-same g h l u
 
--- host parts that admit the same hosts of texts, some at least
+-- host parts that admit the same of the hosts that texts can say
 data SameHosts : HostPart → HostPart → Type 0 where
   same-part : {x : HostPart} → SameHosts x x
   scheme-star : SameHosts noHost anyHost
@@ -221,7 +209,7 @@ any-number k m f =
     let v : 1 ≡ m = eqb-true 1 m (sym (f k 1 (omega arith) (scheme-own k))) in
     omega arith
 
--- a port that says no more than none is dropped
+-- a port that means the same as no port is dropped
 default-number : (k : Scheme) (m : ℕ) → SamePorts k Default (Number m) → Default ≡ normalPort k (Number m)
 unfolding portAdmits normalPort pick
 default-number k m f =
@@ -242,7 +230,7 @@ ports-one k (Number m) Default g h f = unfold normalPort in sym (default-number 
 ports-one k (Number m) Any g h f = absurd (any-number k m (turned k (Number m) Any f))
 ports-one k (Number m) (Number n) g h f = ap (λ (i : ℕ). normalPort k (Number i)) (number-number k m n g f)
 
--- every port is `:*`
+-- a port-part that admits every port is `:*`
 every-port : (k : Scheme) (q : PortPart) → SamePorts k Any q → q ≡ Any
 every-port k Default f = absurd (default-any k (turned k Any Default f))
 every-port k Any f = refl
@@ -333,12 +321,12 @@ by-reach k j p q g i alike (too-long a m) (too-long b n) = both-empty k j a b p 
 pub alike-form : (e f : SourceExpression) → GoodExpression e → GoodExpression f → AdmitAlike e f → (normalForm e ≡ normalForm f) ⊎ (StayTwo e f ⊎ StayTwo f e)
 alike-form e f g i alike = by-reach (e .scheme) (f .scheme) (e .port) (f .port) g i alike (reach (e .host) (e .port) (g .host)) (reach (f .host) (f .port) (i .host))
 
--- what it lists admits the same ...
+-- each pair of `StayTwo` admits the same origins ...
 pub two-alike : {e f : SourceExpression} → StayTwo e f → AdmitAlike e f
 two-alike (everything k) o g = rw (admits-apart (parts k noHost Default) o, admits-apart (parts k anyHost Any) o, admits-any-port (o .scheme) (o .port))
 two-alike (nothing k j a b p q m n d) o g = below-none k a p m o g ∙ sym (below-none j b q n o g)
 
--- ... and has two normal forms
+-- ... and has two normal forms: of `https:` and `https://*:*`, and of the others by definition
 scheme-form : (k : Scheme) → normalForm (parts k noHost Default) ≡ normalForm (parts k anyHost Any) → ⊥
 unfolding computing
 scheme-form Http n = omega (arith, ap length n)

@@ -1,4 +1,4 @@
--- The laws of origins and expressions that the crates above cite: these, those that the `pub use` lines pass on, and `TextParts`. Assumes nothing.
+-- The laws of origins and expressions that the crates above cite: these, those that the `pub use` lines pass on, `TextParts` and `Alike`. Assumes nothing.
 use mathlib.Core.Path.{_≡_, refl, ap, _∙_, sym}
 use Prim.Native.Nat.{ℕ, _+_, _-_, _≤_, _<_}
 use mathlib.Core.List.{List, [], _∷_, _++_}
@@ -33,7 +33,7 @@ use Rattle.origins.specs.declared.PortPart.the-variants.{Default, Any, N
 pub use Rattle.origins.proofs.HostBytes.{host-some, host-most}
 pub use Rattle.origins.proofs.OriginHosts.{host-origin, origin-host-some, origin-host-most, origin-host-longest}
 pub use Rattle.origins.proofs.ExpressionTexts.{expression-range, expression-good, named-short, expression-long}
-pub use Rattle.origins.proofs.Parts.{scheme-is, scheme-self, admits-tuple, admits-parts, admits-no-host, admits-any-host, admits-exact, admits-below, admits-default, admits-any-port, admits-number, text-no-host, text-any-host, text-exact, text-below, text-default, text-any-port, text-number, normal-parts, form-parts, same-parts, opaque-tuple, label-no-dot, pair-host, letter-below, pair-below, before-dot}
+pub use Rattle.origins.proofs.Parts.{scheme-is, scheme-self, scheme-own, schemes-one, http-admits, https-admits, admits-tuple, admits-parts, admits-no-host, admits-any-host, admits-exact, admits-below, admits-default, admits-any-port, admits-number, text-no-host, text-any-host, text-exact, text-below, text-default, text-any-port, text-number, normal-parts, form-parts, same-parts, opaque-tuple, label-no-dot, pair-host, letter-below, pair-below, before-dot}
 pub use Rattle.origins.proofs.PlainTexts.{expression-plain}
 use Rattle.origins.proofs.Numbers.{number-most}
 use Rattle.origins.proofs.Decimals.{port-canonical, port-short}
@@ -210,15 +210,17 @@ before-ends b t h =
     let n : length (b ++ t) ≡ length b + length t = length-append b t in
     rw (lt-ltb (length t) (length (b ++ t)) (omega arith), drop-at b t (length (b ++ t) - length t) (omega arith)) (same-bytes t)
 
--- a port is dropped exactly if it is the default of every scheme that is admitted: then it says no more than none
+-- a port is dropped exactly if it is the default of every scheme that is admitted: then it means the same as no port
 pub dropped-default : (k j : Scheme) (n : ℕ) → isDropped k n ≡ true → schemeAdmits k j ≡ true → n ≡ defaultPort j
+unfolding isDropped schemeAdmits
 dropped-default Http j n e a = clash cc
 dropped-default Https Http n e a = clash cc
 dropped-default Https Https n e a = eqb-true n (defaultPort Https) e
 
 pub default-dropped : (k : Scheme) (n : ℕ) → ((j : Scheme) → schemeAdmits k j ≡ true → n ≡ defaultPort j) → isDropped k n ≡ true
-default-dropped Http n e = absurd (omega (arith, e Http refl, e Https refl))
-default-dropped Https n e = eq-eqb n (defaultPort Https) (e Https refl)
+unfolding isDropped
+default-dropped Http n e = absurd (omega (arith, e Http (http-admits Http), e Https (http-admits Https)))
+default-dropped Https n e = eq-eqb n (defaultPort Https) (e Https (scheme-own Https))
 
 -- so the same origins are admitted without it
 port-normal : (k j : Scheme) (p : PortPart) (n : ℕ) → schemeAdmits k j ≡ true → portAdmits (normalPort k p) j n ≡ portAdmits p j n

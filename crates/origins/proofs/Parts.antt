@@ -37,6 +37,24 @@ pub scheme-self : (k : Scheme) → sameScheme k k ≡ true
 scheme-self Http = refl
 scheme-self Https = refl
 
+-- which schemes a scheme admits: http admits both, https itself alone; so each admits itself, and two that admit each other are one
+pub http-admits : (j : Scheme) → schemeAdmits Http j ≡ true
+unfolding schemeAdmits
+http-admits j = refl
+
+pub https-admits : (j : Scheme) → schemeAdmits Https j ≡ sameScheme Https j
+unfolding schemeAdmits
+https-admits j = refl
+
+pub scheme-own : (k : Scheme) → schemeAdmits k k ≡ true
+scheme-own Http = http-admits Http
+scheme-own Https = https-admits Https
+
+pub schemes-one : (k j : Scheme) → schemeAdmits k j ≡ true → schemeAdmits j k ≡ true → k ≡ j
+schemes-one Http Http a b = refl
+schemes-one Http Https a b = clash (cc (https-admits Http))
+schemes-one Https j a b = scheme-is Https j (sym (https-admits j) ∙ a)
+
 -- of a tuple origin
 pub admits-tuple : (e : SourceExpression) (o : TupleOrigin) → admits e (tuple o) ≡ admitsTuple e o
 unfolding admits

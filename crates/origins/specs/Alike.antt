@@ -1,4 +1,4 @@
--- R-3 of 02, "Two expressions that were one thing now differ": which expressions admit the same origins, and which of them keep two normal forms.
+-- Expressions that admit the same origins, and which of them keep two normal forms, since R-3 of 02.
 use Prim.Native.Nat.{ℕ, _+_, _<_}
 use mathlib.Core.Path.{_≡_}
 use mathlib.Core.List.{List}
@@ -30,5 +30,5 @@ below k h p = record { scheme = k; host = subdomainsOf h; port = p }
 pub data StayTwo : SourceExpression → SourceExpression → Type 0 where
   -- `https:` and `https://*:*`; `http:` and `http://*:*`
   everything : (k : Scheme) → StayTwo (schemeSource k) (record { scheme = k; host = anyHost; port = Any })
-  -- two that admit nothing: `*.` and hosts below which there is none, whatever schemes and ports are
+  -- two that admit nothing, whatever schemes and ports are: `*.` and hosts below which there is none, if their normal forms differ
   nothing : (k j : Scheme) (g h : List ℕ) (p q : PortPart) → NoneBelow g → NoneBelow h → (normalForm (below k g p) ≡ normalForm (below j h q) → ⊥) → StayTwo (below k g p) (below j h q)

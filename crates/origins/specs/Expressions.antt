@@ -36,7 +36,7 @@ hostPartOf h =
     (pick (startsWith (text "*.") h) (pick (isHost (drop 2 h)) (some (subdomainsOf (drop 2 h))) none)
     (pick (isHost h) (some (exactHost h)) none))
 
--- "`http:` or `https:` alone (any origin of that scheme)"
+-- "`http:` or `https:` alone (any origin of that scheme)"; by R-3 of 02 `http:` is any http or https origin
 abbrev pub schemeSource : Scheme → SourceExpression
 schemeSource k = record { scheme = k; host = noHost; port = Default }
 

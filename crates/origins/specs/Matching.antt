@@ -22,7 +22,7 @@ sameScheme Https Http = false
 sameScheme Https Https = true
 
 -- an expression's scheme against an origin's: "The scheme must be equal."; R-3, "`http:` and `http://...` admit https origins too"
-abbrev pub schemeAdmits : Scheme → Scheme → Bool
+unfoldable pub schemeAdmits : Scheme → Scheme → Bool
 schemeAdmits Http j = true
 schemeAdmits Https j = sameScheme Https j
 

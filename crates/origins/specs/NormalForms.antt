@@ -39,7 +39,7 @@ abbrev pub expressionText : SourceExpression → List ℕ
 expressionText e = expressionPartsText (e .scheme) (e .host) (e .port)
 
 -- whether a port after a scheme is dropped: "default port dropped", and R-3, "the tidied form keeps a written `:80` after http"
-abbrev pub isDropped : Scheme → ℕ → Bool
+unfoldable pub isDropped : Scheme → ℕ → Bool
 isDropped Http n = false
 isDropped Https n = eqb n (defaultPort Https)
 

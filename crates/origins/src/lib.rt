@@ -452,6 +452,7 @@ fn scheme_admits(k: Scheme, j: Scheme) -> bool
     }
 }
 
+// Whether a port-part admits the port of an origin; `k`: the origin's scheme.
 fn port_admits(p: PortPart, k: Scheme, n: u32) -> bool
     ensures { λ r. ⌜ r ≡ portAdmits p k n ⌝ }
 {
@@ -479,9 +480,9 @@ pub struct TupleParts {
 fn parts_match(e: ExpressionParts, x: &[u8], o: TupleParts, h: &[u8], anycase: bool) -> bool
     ensures { λ r. ⌜ r ≡ admitsTuple (expressionBy e (each (fold anycase) (now (x .entry)))) (tupleBy o (now (h .entry))) ⌝ }
 {
-    let own = e.scheme;
+    let k = e.scheme;
     let scheme = o.scheme;
-    if !scheme_admits(own, scheme) {
+    if !scheme_admits(k, scheme) {
         return false;
     }
     let kind = e.host;

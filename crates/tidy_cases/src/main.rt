@@ -1,4 +1,4 @@
-// Document 01's cases about tidying, over the library's call: the limits, the order of the refusals, and every lent byte.
+// Document 01's cases about tidying, and one of 02's R-3, over the library's call: the limits, the order of the refusals, and every lent byte.
 ghost use Prim.Native.Nat.{_<_};
 use tidying::TidyAnswer;
 

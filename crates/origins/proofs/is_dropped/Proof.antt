@@ -1,4 +1,5 @@
 -- `is_dropped` is right: each arm of the match is the clause of the definition.
+use Rattle.origins.specs.NormalForms.{isDropped}
 use borrow.Author.Needs.{needs}
 use Rattle.origins.proofs.is_dropped.Statement.{statement}
 use Rattle.origins.proofs.is_dropped.Tie as tie
@@ -10,5 +11,5 @@ is-dropped-spec =
     (λ c. search needs)
     (λ c. search needs)
     (λ c κs. search needs)
-    (λ c. search needs)
-    (λ c. cc))
+    (λ c. unfold isDropped in cc)
+    (λ c. unfold isDropped in cc))
