@@ -26,7 +26,8 @@ pub enum PortPart {
 /// equal exactly if they are tidied alike.
 #[derive(Clone, Debug, PartialEq, Eq)]
 pub enum SourceExpression {
-    /// "`http:` or `https:` alone (any origin of that scheme)", and R-3.
+    /// "`http:` or `https:` alone (any origin of that scheme)"; R-3: `http:` any
+    /// https origin too.
     SchemeOnly(Scheme),
     Full {
         scheme: Scheme,

@@ -1,4 +1,4 @@
--- Expressions that admit the same origins have one normal form, but for the pairs of `StayTwo`: if they differ in a part, an origin tells them apart. Assumes nothing.
+-- Expressions of one normal form admit the same origins; those that admit the same have one normal form, but for the pairs of `StayTwo`: else an origin tells them apart. Assumes nothing.
 use mathlib.Core.Path.{_≡_, refl, ap, _∙_, sym, subst}
 use Prim.Native.Nat.{ℕ, _+_, _-_, _≤_}
 use mathlib.Core.List.{List, [], _∷_}
@@ -83,7 +83,7 @@ letter-b = refl
 -- a host that a host part admits, or none
 data Reach : HostPart → Type 0 where
   reaches : {x : HostPart} (h : List ℕ) → isHost h ≡ true → hostFits x h ≡ true → Reach x
-  too-long : (g : List ℕ) → NoneBelow g → Reach (subdomainsOf g)
+  none-below : (g : List ℕ) → NoneBelow g → Reach (subdomainsOf g)
 
 below-fits : (b : ℕ) (g : List ℕ) → endsIn (46 ∷ g) (b ∷ 46 ∷ g) ≡ true
 below-fits b g = before-ends (b ∷ []) (46 ∷ g) (omega arith)
@@ -95,7 +95,7 @@ reach (exactHost g) p e = reaches g e (same-bytes g)
 reach (subdomainsOf g) p e = go (ltb hostBytes (2 + length g)) refl
   where
     go : (b : Bool) → ltb hostBytes (2 + length g) ≡ b → Reach (subdomainsOf g)
-    go true u = too-long g (ltb-true hostBytes (2 + length g) u)
+    go true u = none-below g (ltb-true hostBytes (2 + length g) u)
     go false u = reaches (97 ∷ 46 ∷ g) (letter-below 97 g refl e (ltb-false hostBytes (2 + length g) u)) (below-fits 97 g)
 
 ends-long : (g h : List ℕ) → endsIn (46 ∷ g) h ≡ true → 2 + length g ≤ length h
@@ -136,7 +136,7 @@ below-below g h a b m n to from =
     let l : length g ≡ length h = omega (arith, ends-long h (97 ∷ 46 ∷ g) u, ends-long g (97 ∷ 46 ∷ h) v) in
     ends-same g h l u
 
--- host parts that admit the same of the hosts that texts can say
+-- host parts that admit the same of the hosts that texts can say, and admit one
 data SameHosts : HostPart → HostPart → Type 0 where
   same-part : {x : HostPart} → SameHosts x x
   scheme-star : SameHosts noHost anyHost
@@ -253,8 +253,8 @@ module _ (e f : SourceExpression) (g : GoodExpression e) (same : (o : TupleOrigi
 abbrev parts : Scheme → HostPart → PortPart → SourceExpression
 parts k x p = record { scheme = k; host = x; port = p }
 
-abbrev OneForm : SourceExpression → SourceExpression → Type 0
-OneForm e f = (normalForm e ≡ normalForm f) ⊎ (StayTwo e f ⊎ StayTwo f e)
+abbrev OneFormOrTwo : SourceExpression → SourceExpression → Type 0
+OneFormOrTwo e f = (normalForm e ≡ normalForm f) ⊎ (StayTwo e f ⊎ StayTwo f e)
 
 abbrev PortsFit : Scheme → HostPart → PortPart → HostPart → PortPart → Type 0
 PortsFit k x p y q = (s : Scheme) (n : ℕ) → n ≤ lastPort → schemeAdmits k s ≡ true → portFits x p s n ≡ portFits y q s n
@@ -268,7 +268,7 @@ one-port k (subdomainsOf g) p q a b c d f = ports-one k p q c d f
 all-ports : (k : Scheme) (q : PortPart) → ((s : Scheme) (n : ℕ) → n ≤ lastPort → schemeAdmits k s ≡ true → true ≡ portAdmits q s n) → q ≡ Any
 all-ports k q f = every-port k q (λ s n h a. admits-any-port s n ∙ f s n h a)
 
-one-form : (k : Scheme) {x y : HostPart} (p q : PortPart) → GoodHost x p → GoodHost y q → GoodPort p → GoodPort q → SameHosts x y → PortsFit k x p y q → OneForm (parts k x p) (parts k y q)
+one-form : (k : Scheme) {x y : HostPart} (p q : PortPart) → GoodHost x p → GoodHost y q → GoodPort p → GoodPort q → SameHosts x y → PortsFit k x p y q → OneFormOrTwo (parts k x p) (parts k y q)
 one-form k p q a b c d (same-part {x}) f =
     inl (rw (form-parts (parts k x p), form-parts (parts k x q)) (ap (expressionPartsText k x) (one-port k x p q a b c d f)))
 one-form k p q a b c d scheme-star f = rw (a, all-ports k q f) (inr (inl (everything k)))
@@ -282,16 +282,16 @@ module _ (e f : SourceExpression) (g : GoodExpression e) (i : GoodExpression f) 
   turned-fits o h n = sym (same-fits o h n)
 
   -- there is a host that the one admits
-  with-host : (h : List ℕ) → isHost h ≡ true → hostFits (e .host) h ≡ true → OneForm e f
+  with-host : (h : List ℕ) → isHost h ≡ true → hostFits (e .host) h ≡ true → OneFormOrTwo e f
   with-host h u v =
       let w = own e f g same-fits h u v in
       let k : e .scheme ≡ f .scheme = schemes-one (e .scheme) (f .scheme) ((own f e i turned-fits h u (w .1)) .0) (w .0) in
       let x : SameHosts (e .host) (f .host) = hosts-one (e .host) (f .host) (e .port) (f .port) (g .host) (i .host) h u v (w .1) (λ d a b. (own e f g same-fits d a b) .1) (λ d a b. (own f e i turned-fits d a b) .1) in
       let ports : PortsFit (e .scheme) (e .host) (e .port) (f .host) (f .port) = λ s n m a. rw (← k, a, v, w .1) at (same-fits (record { scheme = s; host = h; port = n }) u m) in
-      let r : OneForm e (parts (e .scheme) (f .host) (f .port)) = one-form (e .scheme) (e .port) (f .port) (g .host) (i .host) (g .port) (i .port) x ports in
-      subst (OneForm e) (λ j. record { scheme = k j; host = f .host; port = f .port }) r
+      let r : OneFormOrTwo e (parts (e .scheme) (f .host) (f .port)) = one-form (e .scheme) (e .port) (f .port) (g .host) (i .host) (g .port) (i .port) x ports in
+      subst (OneFormOrTwo e) (λ j. record { scheme = k j; host = f .host; port = f .port }) r
 
--- nothing is admitted below a host that is too long
+-- `*.` and a host below which there is none admits nothing
 below-none : (k : Scheme) (g : List ℕ) (p : PortPart) → NoneBelow g → (o : TupleOrigin) → GoodOrigin o → admits (below k g p) (tuple o) ≡ false
 below-none k g p m o d = go (endsIn (46 ∷ g) (o .host)) refl
   where
@@ -304,18 +304,18 @@ admitting f i h u v =
     let o : TupleOrigin = record { scheme = f .scheme; host = h; port = portAt (f .port) (f .scheme) } in
     (o, record { host = host-origin h u; port = port-most (f .port) (f .scheme) (i .port) }, rw (admits-apart f o, scheme-own (f .scheme), v, port-fits (f .host) (f .port) (f .scheme)))
 
-both-empty : (k j : Scheme) (a b : List ℕ) (p q : PortPart) → NoneBelow a → NoneBelow b → (c : Bool) → sameBytes (normalForm (below k a p)) (normalForm (below j b q)) ≡ c → OneForm (below k a p) (below j b q)
+both-empty : (k j : Scheme) (a b : List ℕ) (p q : PortPart) → NoneBelow a → NoneBelow b → (c : Bool) → sameBytes (normalForm (below k a p)) (normalForm (below j b q)) ≡ c → OneFormOrTwo (below k a p) (below j b q)
 both-empty k j a b p q m n true c = inl (bytes-same (normalForm (below k a p)) (normalForm (below j b q)) c)
 both-empty k j a b p q m n false c = inr (inl (nothing k j a b p q m n (λ w. clash (cc (ap (λ (l : List ℕ). sameBytes l (normalForm (below j b q))) w, same-bytes (normalForm (below j b q)))))))
 
 -- by the hosts that the two admit, if any
-by-reach : (k j : Scheme) {x y : HostPart} (p q : PortPart) → GoodExpression (parts k x p) → GoodExpression (parts j y q) → AdmitAlike (parts k x p) (parts j y q) → Reach x → Reach y → OneForm (parts k x p) (parts j y q)
+by-reach : (k j : Scheme) {x y : HostPart} (p q : PortPart) → GoodExpression (parts k x p) → GoodExpression (parts j y q) → AdmitAlike (parts k x p) (parts j y q) → Reach x → Reach y → OneFormOrTwo (parts k x p) (parts j y q)
 by-reach k j p q g i alike (reaches {x} h u v) r = with-host (parts k x p) (parts j _ q) g i alike h u v
-by-reach k j p q g i alike (too-long a m) (reaches {x} h u v) =
+by-reach k j p q g i alike (none-below a m) (reaches {x} h u v) =
     let w = admitting (parts j x q) i h u v in
     let t : true ≡ false = sym (w .2) ∙ (sym (alike (w .0) (w .1)) ∙ below-none k a p m (w .0) (w .1)) in
     clash cc
-by-reach k j p q g i alike (too-long a m) (too-long b n) = both-empty k j a b p q m n (sameBytes (normalForm (below k a p)) (normalForm (below j b q))) refl
+by-reach k j p q g i alike (none-below a m) (none-below b n) = both-empty k j a b p q m n (sameBytes (normalForm (below k a p)) (normalForm (below j b q))) refl
 
 -- two expressions that texts can say, and that admit the same origins that texts can say, have the same normal form or stay two as `StayTwo` lists
 pub alike-form : (e f : SourceExpression) → GoodExpression e → GoodExpression f → AdmitAlike e f → (normalForm e ≡ normalForm f) ⊎ (StayTwo e f ⊎ StayTwo f e)
@@ -326,7 +326,7 @@ pub two-alike : {e f : SourceExpression} → StayTwo e f → AdmitAlike e f
 two-alike (everything k) o g = rw (admits-apart (parts k noHost Default) o, admits-apart (parts k anyHost Any) o, admits-any-port (o .scheme) (o .port))
 two-alike (nothing k j a b p q m n d) o g = below-none k a p m o g ∙ sym (below-none j b q n o g)
 
--- ... and has two normal forms: of `https:` and `https://*:*`, and of the others by definition
+-- ... and has two normal forms: those of a scheme alone and of `*:*` differ in length, the others by definition
 scheme-form : (k : Scheme) → normalForm (parts k noHost Default) ≡ normalForm (parts k anyHost Any) → ⊥
 unfolding computing
 scheme-form Http n = omega (arith, ap length n)

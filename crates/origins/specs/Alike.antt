@@ -1,4 +1,4 @@
--- Expressions that admit the same origins, and which of them keep two normal forms, since R-3 of 02.
+-- 01, "each expression once", with R-3 of 02: expressions that admit the same origins, and which of them keep two normal forms.
 use Prim.Native.Nat.{ℕ, _+_, _<_}
 use mathlib.Core.Path.{_≡_}
 use mathlib.Core.List.{List}
@@ -18,7 +18,7 @@ use Rattle.origins.specs.declared.PortPart.the-variants.{Any}
 abbrev pub AdmitAlike : SourceExpression → SourceExpression → Type 0
 AdmitAlike e f = (o : TupleOrigin) → GoodOrigin o → admits e (tuple o) ≡ admits f (tuple o)
 
--- a host below which there is none: with a byte and a dot before it, it would be longer than a host may be
+-- a host below which there is none, by "A host is 1 to 253 bytes": with a byte and a dot before it, it would be longer
 abbrev pub NoneBelow : List ℕ → Type 0
 NoneBelow h = hostBytes < 2 + length h
 
@@ -30,5 +30,5 @@ below k h p = record { scheme = k; host = subdomainsOf h; port = p }
 pub data StayTwo : SourceExpression → SourceExpression → Type 0 where
   -- `https:` and `https://*:*`; `http:` and `http://*:*`
   everything : (k : Scheme) → StayTwo (schemeSource k) (record { scheme = k; host = anyHost; port = Any })
-  -- two that admit nothing, whatever schemes and ports are: `*.` and hosts below which there is none, if their normal forms differ
+  -- two that admit nothing, whatever their schemes and ports: `*.` and hosts below which there is none, if their normal forms differ
   nothing : (k j : Scheme) (g h : List ℕ) (p q : PortPart) → NoneBelow g → NoneBelow h → (normalForm (below k g p) ≡ normalForm (below j h q) → ⊥) → StayTwo (below k g p) (below j h q)

@@ -53,7 +53,6 @@ unfolding computing
 matches-right = refl
 
 -- R-3 of 02: every combination of scheme, port kind and host kind against http origins at the ports 80, 443, 8080 and 8081, and against https origins at the same.
--- `y` if the expression admits the origin, `-` if not; 0 if the one is no expression or the other no origin
 pub data Row : Type 0 where
   -- of a host part that admits the host `a.example` and not `example`
   ofHost : String → String → String → Row
@@ -67,6 +66,7 @@ httpPorts = "" ∷ ":443" ∷ ":8080" ∷ ":8081" ∷ []
 abbrev httpsPorts : List String
 httpsPorts = ":80" ∷ "" ∷ ":8080" ∷ ":8081" ∷ []
 
+-- `y` if the expression admits the origin, `-` if not; 0 if the one is no expression or the other no tuple origin
 abbrev mark : Option Bool → ℕ
 mark (some b) = pick b 121 45
 mark none = 0

@@ -32,9 +32,9 @@ endsIn t h = ltb (length t) (length h) && sameBytes t (drop (length h - length t
 
 -- a port-part against the scheme and the port of an origin: R-3, "a missing port means the default port of the origin's own scheme"
 unfoldable pub portAdmits : PortPart → Scheme → ℕ → Bool
-portAdmits Default k n = eqb n (defaultPort k)
-portAdmits Any k n = true
-portAdmits (Number m) k n = eqb n m
+portAdmits Default j n = eqb n (defaultPort j)
+portAdmits Any j n = true
+portAdmits (Number m) j n = eqb n m
 
 -- `*.` and a host "admits hosts ending in the dot and the host with at least one byte before"; "It is matched byte for byte"
 unfoldable pub hostAdmits : HostPart → PortPart → TupleOrigin → Bool

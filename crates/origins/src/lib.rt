@@ -452,12 +452,12 @@ fn scheme_admits(k: Scheme, j: Scheme) -> bool
     }
 }
 
-// Whether a port-part admits the port of an origin; `k`: the origin's scheme.
-fn port_admits(p: PortPart, k: Scheme, n: u32) -> bool
-    ensures { λ r. ⌜ r ≡ portAdmits p k n ⌝ }
+// Whether a port-part admits the port of an origin; `j`: the origin's scheme.
+fn port_admits(p: PortPart, j: Scheme, n: u32) -> bool
+    ensures { λ r. ⌜ r ≡ portAdmits p j n ⌝ }
 {
     match p {
-        PortPart::Default => n == default_port(k),
+        PortPart::Default => n == default_port(j),
         PortPart::Any => true,
         PortPart::Number(m) => n == m,
     }
@@ -481,25 +481,25 @@ fn parts_match(e: ExpressionParts, x: &[u8], o: TupleParts, h: &[u8], anycase: b
     ensures { λ r. ⌜ r ≡ admitsTuple (expressionBy e (each (fold anycase) (now (x .entry)))) (tupleBy o (now (h .entry))) ⌝ }
 {
     let k = e.scheme;
-    let scheme = o.scheme;
-    if !scheme_admits(k, scheme) {
+    let j = o.scheme;
+    if !scheme_admits(k, j) {
         return false;
     }
     let kind = e.host;
     let port = e.port;
     match kind {
         HostKind::None => true,
-        HostKind::Any => port_admits(port, scheme, o.port),
+        HostKind::Any => port_admits(port, j, o.port),
         HostKind::Exact => {
             if same_host(x, h, anycase) {
-                port_admits(port, scheme, o.port)
+                port_admits(port, j, o.port)
             } else {
                 false
             }
         }
         HostKind::Subdomains => {
             if is_subdomain(x, h, anycase) {
-                port_admits(port, scheme, o.port)
+                port_admits(port, j, o.port)
             } else {
                 false
             }
@@ -521,9 +521,9 @@ fn admits_tuple(s: &[u8], e: ExpressionRange, t: &[u8], o: TupleRange) -> bool
     let host = e.host;
     let port = e.port;
     let parts = ExpressionParts { scheme, host, port };
-    let k = o.scheme;
+    let j = o.scheme;
     let origin = TupleParts {
-        scheme: k,
+        scheme: j,
         port: o.port,
     };
     let x = ascii::part(s, e.from, e.to);

@@ -29,8 +29,7 @@ pub struct SchemeCases {
 }
 
 /// Each is wanted in headers, in loads by allow and in forecasts by allow. `a`
-/// stands for any host, 1 for a port that is no default, 2 for a port that is
-/// neither a default nor the origin's.
+/// stands for any host, 1 for a port that is no default.
 const MET: [&str; 40] = [
     "http://a, http at 80",
     "http://a, http at 443",
@@ -119,7 +118,7 @@ impl SchemeCases {
                 let container = document.and_then(|d| model.get(d.container?));
                 if let (Some(document), Some(container)) = (document, container) {
                     // The document's own header must not decide.
-                    let undeclared = |f: usize| lets_all_by(document, f);
+                    let open_header = |f: usize| lets_all_by(document, f);
                     let allow = &document.allow;
                     let origin = &document.origin;
                     self.note_frame(
@@ -128,7 +127,7 @@ impl SchemeCases {
                         allow,
                         origin,
                         bits,
-                        undeclared,
+                        open_header,
                     );
                 }
             }

@@ -55,7 +55,7 @@ impl Mood {
         for _ in 0..random.between(1, 3) {
             origins.push(pool_origin(random));
         }
-        // Mostly one host in all of R-3's origins.
+        // Mostly one host with both schemes and every kind of port.
         if random.percent(60) {
             let host = random.word(&HOSTS);
             origins.extend(origins_of_host(random, host));
@@ -206,7 +206,7 @@ pub fn origin_of_either_scheme(random: &mut Random, mood: &Mood) -> String {
 }
 
 /// An origin that the expression admits, or that only its scheme or its port
-/// keeps out.
+/// keeps out; where no longer host fits, the bare one.
 pub fn origin_near(random: &mut Random, expression: &SourceExpression) -> Vec<u8> {
     let (host, port) = match expression {
         SourceExpression::SchemeOnly(_) => (&HostPart::Any, PortPart::Any),
@@ -787,7 +787,7 @@ fn inner_list(random: &mut Random, mood: &Mood) -> String {
             let earlier = random.pick(&items).clone();
             maybe_mixed_case(random, &earlier)
         } else if !items.is_empty() && random.percent(30) {
-            // Or the one before with another port.
+            // Or the one before with another port or scheme.
             match items
                 .last()
                 .and_then(|i| i.strip_prefix('"')?.strip_suffix('"'))
@@ -1482,7 +1482,7 @@ mod tests {
         assert!(lengths.iter().all(|&count| count > 100), "{lengths:?}");
     }
 
-    /// The expressions of each member of a list, every double included.
+    /// The expressions of a member's value, doubles included.
     fn expressions_of(value: &MemberValue) -> Vec<SourceExpression> {
         let items: Vec<&BareItem> = match value {
             MemberValue::Item(item) => vec![item],

@@ -575,8 +575,8 @@ fn an_added_keyword_takes_nothing_away() {
 
 // ---------------------------------------------------------------
 
-/// "`http:` and `http://...` admit https origins too" in headers, for the page
-/// itself and for the frames in it.
+/// "`http:` and `http://...` admit https origins too" in headers and allow
+/// attributes, for frames and for questions.
 #[test]
 fn pages_that_moved_to_https() {
     let camera = set(&[CAMERA]);
