@@ -274,7 +274,8 @@ fn lets_all_by(document: &Known, feature: usize) -> bool {
     matches!(&document.declared[feature], None | Some(Allowlist::All))
 }
 
-/// Both by their kinds.
+/// Both by their kinds. An expression's port that is no default is 1 if it is
+/// the origin's, else 2.
 fn case_of(expression: &SourceExpression, origin: &TupleOrigin) -> String {
     let written = match expression {
         SourceExpression::SchemeOnly(scheme) => format!("{}:", scheme.name()),
