@@ -1,3 +1,4 @@
 pub mod Arms
 pub mod Masks
 pub mod Laws
+pub mod Everywhere

@@ -1,6 +1,6 @@
 -- What the crates above use of dictionaries, here and in its parts: InnerLists (`items-item`, `items-end`, the items of a list by its cursor),
 -- ReadBack (`written-back`, what is written is read back), Keys (`no-empty-key`), Written (the texts that are written, by their cases), Bytes (how many bytes the items
--- of a list, and those of a member, take). Assumes nothing.
+-- of a list, and those of a member, take), MemberBytes (those of all members). Assumes nothing.
 use mathlib.Core.Path.{_≡_, refl, ap, _∙_, sym}
 use Prim.Native.Nat.{ℕ}
 use mathlib.Core.List.{List, [], _∷_, _++_}

@@ -6,6 +6,7 @@ pub mod Members
 pub mod NextMembers
 pub mod Lookup
 pub mod Bytes
+pub mod MemberBytes
 pub mod Written
 pub mod Laws
 pub mod ReadBack

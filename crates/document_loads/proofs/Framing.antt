@@ -1,143 +1,176 @@
--- The record of a loaded document, and what a frame would inherit, in the terms of the code. Assumes nothing.
-use mathlib.Core.Path.{_≡_, refl, ap, sym, _∙_}
-use Prim.Native.Nat.{ℕ, suc, _+_, _≤_, _<_}
+-- The document that a load makes, and what a frame would inherit, in the terms of the code. Assumes nothing.
+use mathlib.Core.Path.{_≡_, refl, ap, sym, _∙_, subst}
+use Prim.Native.Nat.{ℕ, suc, _+_, _*_, _≤_, _<_, _^_}
 use native.Mathlib.Omega.{arith}
 use native.Mathlib.Numerals.{add-one}
 use mathlib.Core.List.{List, [], _∷_, _++_}
 use mathlib.Core.Bool.{Bool, true, false}
 use mathlib.Core.Option.{Option, some, none}
-use lib.ListN.{length, take, set, getD}
-use lib.Seq.{take-suc, take-suc-set, length-take-le}
+use lib.ListN.{length, take, replicate, length-replicate, length-take, length-drop}
+use lib.Seq.{length-take-le}
 use Rattle.limits.specs.Limits.{documentLimit}
-use Rattle.features.specs.Features.{featureCount}
+use Rattle.lent_bytes.specs.Numbers.{numberAt, bytesOf, numbersIn, numberBytes}
+use Rattle.lent_bytes.proofs.Laws.{bytes-none, bytes-more, number-bytes-long, numbers-none, numbers-more, numbers-length}
 use Rattle.origins.specs.Origins.{Origin, originOf}
 use Rattle.origins.specs.Origins.Origin.{tuple, opaque, fresh}
 use Rattle.origins.specs.Matching.{sameOrigin}
 use Rattle.origins.specs.Answers.{originAs, originIn, tupleIn}
 use Rattle.origins.specs.declared.OriginText.{OriginText}
+use Rattle.origins.specs.declared.OriginRange.{OriginRange}
 use Rattle.origins.specs.declared.OriginRange.the-variants as range
 use Rattle.origins.specs.declared.TupleRange.{TupleRange}
-use Rattle.origins.proofs.Laws.{tuple-self, fresh-left}
-use Rattle.declarations.specs.Declarations.{declares}
-use Rattle.settled.specs.Settled.{declaredIn as settledIn}
+use Rattle.origins.proofs.Laws.{tuple-self, fresh-left, text-empty}
 use Rattle.containers.specs.Attributes.{Attributes}
 use Rattle.containers.specs.Sandboxes.{sandboxWords}
 use Rattle.containers.specs.Answers.{IsSandboxed, IsDeclared, declaredIn}
 use Rattle.containers.specs.declared.DeclaredOrigin.{DeclaredOrigin}
 use Rattle.containers.specs.declared.DeclaredOrigin.the-variants as declared
 use Rattle.containers.proofs.Laws.{policy-attributes}
+use Rattle.decisions.specs.Decisions.{inheritedTop}
 use Rattle.decisions.specs.Masks.{maskOf}
 use Rattle.decisions.specs.Policies.{inheritedIn, forecast}
-use Rattle.decisions.proofs.Laws.{top-mask, forecast-parts}
-use Rattle.document_records.specs.Records.{ownOrigin, documentIn, recordPolicy, IsDeclaredOrigin, IsInherited}
-use Rattle.document_records.specs.declared.Document.{Document}
-use Rattle.document_records.proofs.Laws.{document-serial, document-above}
-use Rattle.document_records.proofs.Parts.{document-sandboxed, document-origin, document-parts}
-use Rattle.document_model.specs.Model.{Text, arrivesAt, orFresh, frameDeclared, frameSandboxed, frameOf}
-use Rattle.document_model.proofs.Laws.{values-same}
-use Rattle.document_model.proofs.Parts.{top-parts, frame-sandboxed, frame-declared, framed-parts}
+use Rattle.decisions.proofs.Laws.{top-mask, mask-below, forecast-parts}
+use Rattle.document_model.specs.Model.{Text, Identity, arrivesAt, orFresh, frameDeclared, frameSandboxed, frameOf, topIdentity, framedIdentity}
+use Rattle.document_model.proofs.Parts.{frame-sandboxed, frame-declared, top-identity, framed-identity}
+use Rattle.document_records.specs.Slots.{slotBytes, originBytes, originBytesOf, depthPlace, opaquePlace, depthIn, aboveBytes, ownText, ownOrigin, isSandboxedIn, documentIn, slotPolicy, Kept, GoodSlot}
+use Rattle.document_records.specs.Records.{IsOwnRange, IsDeclaredOrigin, IsInherited}
+use Rattle.document_records.proofs.Laws.{document-parts, document-serial, document-above, document-origin, document-sandboxed}
+use Rattle.document_loads.specs.Slots.{filled, Fits, KeptOrigin, IsNewDocument}
+use Rattle.document_loads.specs.Loads.{attributes, IsAt, Arrives, IsTopDocument, framedIn, inheritsIn, IsFramedDocument, Foretells}
 use Rattle.document_loads.specs.declared.FrameMarks.{FrameMarks}
 use Rattle.document_loads.specs.declared.Arrival.{Arrival}
-use Rattle.document_loads.specs.declared.Kept.{Kept}
-use Rattle.document_loads.specs.Loads.{attributes, IsKept, IsAtMost, Arrives, IsAbove, IsTopDocument, IsFramedDocument, Foretells}
+use Rattle.document_loads.proofs.Putting.{filled-long, filled-front, filled-none}
+
+-- the length of the text that an arrival has
+text-long : (o own : List ℕ) (number : ℕ) (container : OriginRange) (n : ℕ) (a : Arrival) (x : Origin) → Arrives o own number container n a → take (a .length) (a .text) ≡ originBytesOf x → a .length ≡ length (originBytesOf x)
+text-long o own number container n a x at e = sym (length-take-le (a .length) (a .text) (let r = at .room in let s = at .short in omega arith)) ∙ ap length e
 
 -- ---- a document at the top
 
-pub is-top : (o h above : List ℕ) (n : ℕ) (x : OriginText) (zeros : List ℕ) (a : Arrival) (kept : Kept) → x ≡ originAs (originOf o) → IsKept h kept → Arrives x o zeros (range.Opaque n) n a
-    → IsTopDocument o h n (record { document = record { serial = n; above = above; depth = 0; origin = a .origin; text = a .text; sandboxed = false; inherited = 131071; header = kept .bytes }; malformed = kept .malformed })
-is-top o h above n x zeros a kept read keeps at =
-    record {
-      depth = omega arith;
-      says = λ le.
-          document-parts (record { serial = n; above = above; depth = 0; origin = a .origin; text = a .text; sandboxed = false; inherited = 131071; header = kept .bytes })
-          ∙ (rw (at .says read, values-same (settledIn (kept .bytes)) (declares h) 0 featureCount (λ k y z. keeps .says le k), ← top-mask) (sym (top-parts h (originOf o) n)));
-      malformed = keeps .malformed;
-    }
-
--- ---- the serials above
-
-pub above-more : (l list : List ℕ) (s i z : ℕ) → i + 1 < length l → i < length list → take (i + 1) l ≡ s ∷ take i list → take (i + 1 + 1) (set l (i + 1) (getD list i z)) ≡ s ∷ take (i + 1) list
-above-more l list s i z h k e =
-    let a : take (suc (i + 1)) (set l (i + 1) (getD list i z)) ≡ take (i + 1) l ++ (getD list i z ∷ []) = take-suc-set l (i + 1) (getD list i z) h in
-    let b : take (suc i) list ≡ take i list ++ (getD list i z ∷ []) = take-suc list i z k in
-    ap (λ (j : ℕ). take j (set l (i + 1) (getD list i z))) (add-one (i + 1))
-    ∙ (a ∙ (ap (λ (m : List ℕ). m ++ (getD list i z ∷ [])) e ∙ (ap (λ (m : List ℕ). s ∷ m) (sym b) ∙ ap (λ (j : ℕ). s ∷ take j list) (sym (add-one i)))))
-
-pub above-end : (c : Document) (l : List ℕ) (n i : ℕ) → length (c .above) ≡ 16 → i ≤ n → n ≤ i → take (i + 1) l ≡ c .serial ∷ take i (c .above) → IsAbove c n l
-above-end c l n i long h k e = let q : n ≡ i = omega arith in record { is = rw q e; places = long }
-
--- a document with fewer than sixteen above has a place for one more
-shallow : (c : Document) → c .depth ≤ documentLimit → length (c .above) ≡ documentLimit → length (documentIn c .identity .above) < documentLimit → c .depth < documentLimit
-shallow c h e k =
-    let le : c .depth ≤ length (c .above) = omega arith in
-    omega (arith, ap length (document-above c), length-take-le (c .depth) (c .above) le)
+pub is-top : (o above empty : List ℕ) (n k : ℕ) (a : Arrival) → above ≡ replicate (4 * documentLimit) 0 → empty ≡ [] → Arrives o empty n (range.Opaque n) n a → k ≡ a .length
+    → IsTopDocument o n (record { above = above; depth = 0; text = a .text; length = k; number = a .number; sandboxed = false; inherited = 131071 })
+is-top o above empty n k a zeros e at ek =
+    let kept : KeptOrigin empty n (opaque n) = rw e (record { bytes = refl; number = refl; reads = rw text-empty refl }) in
+    let w : IsAt (arrivesAt (originOf o) (opaque n) n) a = at .says (opaque n) kept refl in
+    let size = text-long o empty n (range.Opaque n) n a (arrivesAt (originOf o) (opaque n) n) at (w .kept .bytes) in
+    rw (top-identity (originOf o) n, ek)
+    (record {
+      fits = record { depth = omega arith; text = at .short; above-room = ap length zeros ∙ length-replicate {A = ℕ} (4 * documentLimit) 0; text-room = at .room };
+      above = sym bytes-none;
+      depth = refl;
+      listed = ap numbersIn bytes-none ∙ numbers-none;
+      origin = w .kept;
+      text = size;
+      sandboxed = refl;
+      inherited = sym top-mask;
+      small = at .small;
+      bits = rw top-mask (omega arith);
+      above-filled = zeros ∙ (filled-none (4 * documentLimit) ∙ ap (filled (4 * documentLimit)) (sym bytes-none));
+      text-filled = at .rest ∙ ap (filled originBytes) (w .kept .bytes);
+    })
 
 -- ---- a document in a frame
 
--- the declared origin of a frame in a document's record
-declared-is : (c : Document) (a : Attributes) (b : Bool) (x : OriginText) (d : DeclaredOrigin) → IsSandboxed (c .sandboxed) (a .hasSandbox) (a .sandbox) b → IsDeclared b x d → x ≡ originAs (originOf (a .src))
-    → frameDeclared (documentIn c .identity) a ≡ orFresh (declaredIn (a .src) (ownOrigin c) d)
-declared-is c a b x d h k e =
-    frame-declared (documentIn c .identity) a
-    ∙ rw (document-sandboxed c, document-origin c) (ap orFresh (sym (k .says a (c .sandboxed) (ownOrigin c) (h .says a refl refl) e)))
+-- the declared origin of a frame in a slot's document
+declared-is : (s : ℕ) (c : List ℕ) (a : Attributes) (w b : Bool) (x : OriginText) (d : DeclaredOrigin) → w ≡ isSandboxedIn c → IsSandboxed w (a .hasSandbox) (a .sandbox) b → IsDeclared b x d → x ≡ originAs (originOf (a .src))
+    → frameDeclared (documentIn s c .identity) a ≡ orFresh (declaredIn (a .src) (ownOrigin c) d)
+declared-is s c a w b x d ew h k e =
+    frame-declared (documentIn s c .identity) a
+    ∙ rw (document-sandboxed s c, document-origin s c) (ap orFresh (sym (k .says a (isSandboxedIn c) (ownOrigin c) (h .says a refl refl ∙ rw ew refl) e)))
 
 -- whether the arriving origin is the declared one
 arrives-declared : (container : Origin) (d : DeclaredOrigin) (src : List ℕ) (o : Origin) (r : Bool) → IsDeclaredOrigin container d src o r → (x : Option Origin) → declaredIn src container d ≡ x → r ≡ sameOrigin (orFresh x) o
 arrives-declared container d src o r h (some x) e = h .says x e
 arrives-declared container d src o r h none e = h .none-declared e ∙ sym (fresh-left o)
 
+above-many : (c : List ℕ) → Kept c → length (numbersIn (aboveBytes c)) ≡ depthIn c
+above-many c k = let a = k .long in let d = k .depth in numbers-length (depthIn c) (aboveBytes c) (rw (length-take, length-drop) (omega arith))
+
 -- `framed_document`
-pub is-framed : (c : Document) (o h : List ℕ) (n : ℕ) (said x : OriginText) (allow : List ℕ) (marks : FrameMarks) (sandbox src : List ℕ) (b same : Bool) (d : DeclaredOrigin) (at : Arrival) (m k : ℕ) (above : List ℕ) (kept : Kept)
-    → said ≡ originAs (originOf o)
+pub is-framed : (c : List ℕ) (s : ℕ) (o : List ℕ) (n : ℕ) (x : OriginText) (allow : List ℕ) (marks : FrameMarks) (sandbox src : List ℕ) (box b same : Bool) (d : DeclaredOrigin) (own : OriginRange) (u : List ℕ) (q : ℕ) (at : Arrival) (m : ℕ) (above : List ℕ) (k j : ℕ)
+    → GoodSlot c
     → x ≡ originAs (originOf src)
-    → IsKept h kept
-    → IsSandboxed (c .sandboxed) (marks .«has_sandbox») sandbox b
+    → box ≡ isSandboxedIn c
+    → IsSandboxed box (marks .«has_sandbox») sandbox b
     → IsDeclared b x d
-    → Arrives said o (c .text) (c .origin) n at
-    → IsDeclaredOrigin (ownOrigin c) d src (originIn (at .text) (at .origin)) same
-    → IsInherited (recordPolicy c) allow (marks .allowfullscreen) (sandboxWords (marks .«has_sandbox») sandbox) same (originIn (at .text) (at .origin)) m
-    → IsAtMost (c .depth) 15 k
-    → IsAbove c k above
-    → IsFramedDocument c o h (attributes allow marks sandbox src) n
-    (record { document = record { serial = n; above = above; depth = k + 1; origin = at .origin; text = at .text; sandboxed = b; inherited = m; header = kept .bytes }; malformed = kept .malformed })
-is-framed c o h n said x allow marks sandbox src b same d at m k above kept read read-src keeps box ds arrives is i most up =
+    → IsOwnRange c own
+    → u ≡ ownText c
+    → q ≡ numberAt c opaquePlace
+    → Arrives o u q own n at
+    → IsDeclaredOrigin (ownOrigin c) d src (originIn (take (at .length) (at .text)) (at .origin)) same
+    → IsInherited (slotPolicy c) allow (marks .allowfullscreen) (sandboxWords (marks .«has_sandbox») sandbox) same (originIn (take (at .length) (at .text)) (at .origin)) m
+    → (above ≡ filled (4 * documentLimit) (bytesOf s ++ aboveBytes c)) × (s < 2 ^ 32)
+    → k ≡ numberAt c depthPlace
+    → j ≡ at .length
+    → IsFramedDocument c s o (attributes allow marks sandbox src) n (record { above = above; depth = k + 1; text = at .text; length = j; number = at .number; sandboxed = b; inherited = m })
+is-framed c s o n x allow marks sandbox src box b same d own u q at m above k j good read-src ebox boxed ds range eu eq arrives is i up ek ej =
     let a = attributes allow marks sandbox src in
-    let f = frameOf (documentIn c .identity) a in
-    let here = originIn (at .text) (at .origin) in
-    record {
-      depth = omega (arith, most .within);
-      says = λ le within room.
-          let w : same ≡ sameOrigin (frameDeclared (documentIn c .identity) a) here =
-          arrives-declared (ownOrigin c) d src here same is (declaredIn src (ownOrigin c) d) refl ∙ ap (λ (y : Origin). sameOrigin y here) (sym (declared-is c a b x d box ds read-src)) in
-          let bits = i .says f (policy-attributes a) w in
-          let boxed : b ≡ frameSandboxed (documentIn c .identity) a = box .says a refl refl ∙ sym (frame-sandboxed (documentIn c .identity) a ∙ rw (document-sandboxed c) refl) in
-          let lt : c .depth < documentLimit = shallow c within (up .places) room in
-          let deep : k ≡ c .depth = most .whole (omega arith) in
-          let over : take (k + 1) above ≡ c .serial ∷ take (c .depth) (c .above) = up .is ∙ ap (λ (j : ℕ). c .serial ∷ take j (c .above)) deep in
-          document-parts (record { serial = n; above = above; depth = k + 1; origin = at .origin; text = at .text; sandboxed = b; inherited = m; header = kept .bytes })
-          ∙ (rw (bits, arrives .says read, over, boxed, values-same (settledIn (kept .bytes)) (declares h) 0 featureCount (λ j y z. keeps .says le j)) (sym (framed-parts (documentIn c) h a (originOf o) n ∙ rw (document-serial c, document-above c, document-origin c) refl)));
-      malformed = keeps .malformed;
-    }
+    let f = frameOf (documentIn s c .identity) a in
+    let l = numbersIn (aboveBytes c) in
+    let kept : KeptOrigin u q (ownOrigin c) = rw (eu, eq) (record { bytes = good .own; number = good .number; reads = refl }) in
+    let w : IsAt (arrivesAt (originOf o) (ownOrigin c) n) at = arrives .says (ownOrigin c) kept (ap (λ (y : List ℕ). originIn y own) eu ∙ range .is) in
+    let here : originIn (take (at .length) (at .text)) (at .origin) ≡ arrivesAt (originOf o) (ownOrigin c) n = w .here in
+    let size = text-long o u q own n at (arrivesAt (originOf o) (ownOrigin c) n) arrives (w .kept .bytes) in
+    let test : same ≡ sameOrigin (frameDeclared (documentIn s c .identity) (attributes allow marks sandbox src)) (originIn (take (at .length) (at .text)) (at .origin)) =
+    arrives-declared (ownOrigin c) d src (originIn (take (at .length) (at .text)) (at .origin)) same is (declaredIn src (ownOrigin c) d) refl
+    ∙ ap (λ (y : Origin). sameOrigin y (originIn (take (at .length) (at .text)) (at .origin))) (sym (declared-is s c a box b x d ebox boxed ds read-src)) in
+    let bits : m ≡ maskOf (inheritedIn (slotPolicy c) (frameOf (documentIn s c .identity) (attributes allow marks sandbox src)) (arrivesAt (originOf o) (ownOrigin c) n)) =
+    i .says f (policy-attributes a) test ∙ ap (λ (y : Origin). maskOf (inheritedIn (slotPolicy c) (frameOf (documentIn s c .identity) (attributes allow marks sandbox src)) y)) here in
+    let sandboxed : b ≡ frameSandboxed (documentIn s c .identity) (attributes allow marks sandbox src) = boxed .says a refl refl ∙ sym (frame-sandboxed (documentIn s c .identity) a ∙ rw (document-sandboxed s c, ← ebox) refl) in
+    let many : length (numbersIn (aboveBytes c)) ≡ depthIn c = above-many c (good .kept) in
+    let written : bytesOf s ++ aboveBytes c ≡ numberBytes (s ∷ numbersIn (aboveBytes c)) = ap (λ (y : List ℕ). bytesOf s ++ y) (good .above) ∙ sym (bytes-more s l) in
+    let all : above ≡ filled (4 * documentLimit) (numberBytes (s ∷ numbersIn (aboveBytes c))) = up .0 ∙ ap (filled (4 * documentLimit)) written in
+    let shallow = good .shallow in
+    let size-above : length (numberBytes (s ∷ numbersIn (aboveBytes c))) ≡ 4 * (depthIn c + 1) = number-bytes-long (s ∷ l) ∙ (let z : 4 * suc (length (numbersIn (aboveBytes c))) ≡ 4 * (depthIn c + 1) = omega arith in z) in
+    let bytes : take (4 * (k + 1)) above ≡ numberBytes (s ∷ numbersIn (aboveBytes c)) =
+    rw (ek, ← size-above, all) (filled-front (4 * documentLimit) (numberBytes (s ∷ numbersIn (aboveBytes c))) (omega arith)) in
+    let listed : numbersIn (numberBytes (s ∷ numbersIn (aboveBytes c))) ≡ s ∷ numbersIn (aboveBytes c) = ap numbersIn (bytes-more s l) ∙ (numbers-more s (numberBytes l) (up .1) ∙ ap (λ (y : List ℕ). s ∷ numbersIn y) (sym (good .above))) in
+    let mask = mask-below (inheritedIn (slotPolicy c) (frameOf (documentIn s c .identity) (attributes allow marks sandbox src)) (arrivesAt (originOf o) (ownOrigin c) n)) in
+    let short = arrives .short in
+    rw (framed-identity (documentIn s c .identity) a (originOf o) n, document-serial s c, document-above s c, document-origin s c, ej)
+    (record {
+      fits = record { depth = omega (arith, ek); text = short; above-room = ap length (up .0) ∙ filled-long (4 * documentLimit) (bytesOf s ++ aboveBytes c); text-room = arrives .room };
+      above = bytes;
+      depth = let z : k + 1 ≡ suc (length (numbersIn (aboveBytes c))) = omega (arith, ek) in z;
+      listed = listed;
+      origin = w .kept;
+      text = size;
+      sandboxed = sandboxed;
+      inherited = bits;
+      small = arrives .small;
+      bits = omega arith;
+      above-filled = all;
+      text-filled = arrives .rest ∙ ap (filled originBytes) (w .kept .bytes);
+    })
 
 -- ---- a forecast
 
-module _ (c : Document) (x : OriginText) (allow : List ℕ) (marks : FrameMarks) (sandbox src : List ℕ) (b : Bool) (d : DeclaredOrigin) (h : IsSandboxed (c .sandboxed) (marks .«has_sandbox») sandbox b) (k : IsDeclared b x d) (e : x ≡ originAs (originOf src)) where
-  foretold-at : (o : Origin) (same : Bool) (r : ℕ) → orFresh (declaredIn src (ownOrigin c) d) ≡ o → same ≡ sameOrigin o o → IsInherited (recordPolicy c) allow (marks .allowfullscreen) (sandboxWords (marks .«has_sandbox») sandbox) same o r → Foretells c (attributes allow marks sandbox src) r
+module _ (c : List ℕ) (x : OriginText) (allow : List ℕ) (marks : FrameMarks) (sandbox src : List ℕ) (w b : Bool) (d : DeclaredOrigin) (ew : w ≡ isSandboxedIn c) (h : IsSandboxed w (marks .«has_sandbox») sandbox b) (k : IsDeclared b x d) (e : x ≡ originAs (originOf src)) where
+  foretold-at : (o : Origin) (same : Bool) (r : ℕ) → orFresh (declaredIn src (ownOrigin c) d) ≡ o → same ≡ sameOrigin o o → IsInherited (slotPolicy c) allow (marks .allowfullscreen) (sandboxWords (marks .«has_sandbox») sandbox) same o r → Foretells c (attributes allow marks sandbox src) r
   foretold-at o same r q s i =
       let a = attributes allow marks sandbox src in
-      let f = frameOf (documentIn c .identity) a in
-      let w : frameDeclared (documentIn c .identity) a ≡ o = declared-is c a b x d h k e ∙ q in
-      i .says f (policy-attributes a) (s ∙ ap (λ (y : Origin). sameOrigin y o) (sym w))
-      ∙ (ap (λ (y : Origin). maskOf (inheritedIn (recordPolicy c) f y)) (sym w) ∙ sym (forecast-parts (recordPolicy c) f))
+      let f = frameOf (documentIn 0 c .identity) a in
+      let v : frameDeclared (documentIn 0 c .identity) (attributes allow marks sandbox src) ≡ o = declared-is 0 c a w b x d ew h k e ∙ q in
+      i .says f (policy-attributes a) (s ∙ ap (λ (y : Origin). sameOrigin y o) (sym v))
+      ∙ (ap (λ (y : Origin). maskOf (inheritedIn (slotPolicy c) f y)) (sym v) ∙ sym (forecast-parts (slotPolicy c) f))
 
-  pub foretold-fresh : (r : ℕ) → d ≡ declared.Fresh → IsInherited (recordPolicy c) allow (marks .allowfullscreen) (sandboxWords (marks .«has_sandbox») sandbox) false (originIn src range.Fresh) r → Foretells c (attributes allow marks sandbox src) r
+  pub foretold-fresh : (r : ℕ) → d ≡ declared.Fresh → IsInherited (slotPolicy c) allow (marks .allowfullscreen) (sandboxWords (marks .«has_sandbox») sandbox) false (originIn src range.Fresh) r → Foretells c (attributes allow marks sandbox src) r
   foretold-fresh r q i = foretold-at fresh false r (ap (λ (y : DeclaredOrigin). orFresh (declaredIn src (ownOrigin c) y)) q) (sym (fresh-left fresh)) i
 
-  pub foretold-none : (r : ℕ) → d ≡ declared.NotAnOrigin → IsInherited (recordPolicy c) allow (marks .allowfullscreen) (sandboxWords (marks .«has_sandbox») sandbox) false (originIn src range.Fresh) r → Foretells c (attributes allow marks sandbox src) r
+  pub foretold-none : (r : ℕ) → d ≡ declared.NotAnOrigin → IsInherited (slotPolicy c) allow (marks .allowfullscreen) (sandboxWords (marks .«has_sandbox») sandbox) false (originIn src range.Fresh) r → Foretells c (attributes allow marks sandbox src) r
   foretold-none r q i = foretold-at fresh false r (ap (λ (y : DeclaredOrigin). orFresh (declaredIn src (ownOrigin c) y)) q) (sym (fresh-left fresh)) i
 
-  pub foretold-container : (same : Bool) (r : ℕ) → d ≡ declared.Container → same ≡ sameOrigin (ownOrigin c) (ownOrigin c) → IsInherited (recordPolicy c) allow (marks .allowfullscreen) (sandboxWords (marks .«has_sandbox») sandbox) same (ownOrigin c) r → Foretells c (attributes allow marks sandbox src) r
-  foretold-container same r q s i = foretold-at (ownOrigin c) same r (ap (λ (y : DeclaredOrigin). orFresh (declaredIn src (ownOrigin c) y)) q) s i
+  pub foretold-container : (u : List ℕ) (own : OriginRange) (same : Bool) (r : ℕ) → d ≡ declared.Container → u ≡ ownText c → IsOwnRange c own → same ≡ sameOrigin (originIn u own) (originIn u own) → IsInherited (slotPolicy c) allow (marks .allowfullscreen) (sandboxWords (marks .«has_sandbox») sandbox) same (originIn u own) r → Foretells c (attributes allow marks sandbox src) r
+  foretold-container u own same r q eu range s i =
+      let v : originIn u own ≡ ownOrigin c = ap (λ (y : List ℕ). originIn y own) eu ∙ range .is in
+      foretold-at (originIn u own) same r (ap (λ (y : DeclaredOrigin). orFresh (declaredIn src (ownOrigin c) y)) q ∙ sym v) s i
 
-  pub foretold-src : (p : TupleRange) (r : ℕ) → d ≡ declared.Src p → IsInherited (recordPolicy c) allow (marks .allowfullscreen) (sandboxWords (marks .«has_sandbox») sandbox) true (originIn src (range.Tuple p)) r → Foretells c (attributes allow marks sandbox src) r
+  pub foretold-src : (p : TupleRange) (r : ℕ) → d ≡ declared.Src p → IsInherited (slotPolicy c) allow (marks .allowfullscreen) (sandboxWords (marks .«has_sandbox») sandbox) true (originIn src (range.Tuple p)) r → Foretells c (attributes allow marks sandbox src) r
   foretold-src p r q i = foretold-at (tuple (tupleIn src p)) true r (ap (λ (y : DeclaredOrigin). orFresh (declaredIn src (ownOrigin c) y)) q) (sym (tuple-self (tupleIn src p))) i
+
+-- what the calls ask
+pub own-short : (c u : List ℕ) → Kept c → u ≡ ownText c → length u ≤ originBytes
+own-short c u k e = let t = k .text in rw (e, length-take, length-drop) (omega arith)
+
+pub here-long : (o own : List ℕ) (number : ℕ) (container : OriginRange) (n : ℕ) (a : Arrival) → Arrives o own number container n a → a .length ≡ length (take (a .length) (a .text))
+here-long o own number container n a at = sym (length-take-le (a .length) (a .text) (let r = at .room in let s = at .short in omega arith))

@@ -1,3 +1,4 @@
+pub mod Putting
+pub mod Written
 pub mod Arriving
 pub mod Framing
-pub mod Keeping

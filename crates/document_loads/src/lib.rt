@@ -1,11 +1,19 @@
-// What a load makes: a header settled, the record of a document at the top or in a frame. And what a frame would inherit at its declared origin.
-ghost use Prim.Native.Nat.{_<_};
-ghost use Rattle.limits.specs.Limits.{documentLimit};
-ghost use Rattle.document_loads.specs.Loads.{attributes, IsKept, IsAtMost, StartsWith, Arrives, IsAbove, IsTopDocument, IsFramedDocument, Foretells};
+// What a load makes and writes: a document at the top or in a frame, and its bytes in a slot of the table. And what a frame would inherit at its declared origin.
+ghost use mathlib.Core.Path.{_≡_};
+ghost use mathlib.Core.List.{_++_};
+ghost use Prim.Native.Nat.{_+_, _*_, _^_, _≤_, _<_};
+ghost use lib.ListN.{length};
+ghost use Rattle.writing.specs.Writing.{withText};
+ghost use Rattle.limits.specs.Limits.{textBytes, documentLimit};
+ghost use Rattle.lent_bytes.specs.Numbers.{bytesOf, numberBytes};
+ghost use Rattle.origins.specs.Origins.{originOf};
+ghost use Rattle.origins.specs.Answers.{originAs};
+ghost use Rattle.document_records.specs.Slots.{slotBytes, originBytes, depthPlace, aboveBytes, Kept, GoodSlot};
+ghost use Rattle.document_loads.specs.Loads.{attributes, Arrives, IsTopDocument, IsFramedDocument, Foretells};
+ghost use Rattle.document_loads.specs.Slots.{filled, numbersOf, markOf, frontPut, decided, PutsHeader, Fits, Writes};
 use containers::DeclaredOrigin;
-use document_records::Document;
 use document_records::ORIGIN_BYTES;
-use document_records::SETTLED_BYTES;
+use lent_bytes::NUMBER;
 use limits::DOCUMENTS;
 use origins::OriginRange;
 use origins::OriginText;
@@ -17,66 +25,36 @@ pub struct FrameMarks {
     pub has_sandbox: bool,
 }
 
-// The record of a document that is loaded, and whether its header was malformed.
+// Bytes of the serials above a document.
+const ABOVE_BYTES: usize = NUMBER * DOCUMENTS;
+
+// A document that is loaded, but for its header: the serials above it as they stand in a slot, and how many they are; the text of its origin, its length, and a number; whether it is
+// sandboxed; what it inherits, bit n for feature n.
 pub struct NewDocument {
-    pub document: Document,
-    pub malformed: bool,
+    pub above: [u8; ABOVE_BYTES],
+    pub depth: u32,
+    pub text: [u8; ORIGIN_BYTES],
+    pub length: u32,
+    pub number: u32,
+    pub sandboxed: bool,
+    pub inherited: u32,
 }
 
-// A header settled, and whether it was malformed.
-struct Kept {
-    bytes: [u8; SETTLED_BYTES],
-    malformed: bool,
-}
-
-// The origin of a document that is loaded, beside a text.
+// The origin at which a document arrives, as it stands in a slot, and beside its text.
 struct Arrival {
     text: [u8; ORIGIN_BYTES],
+    length: usize,
+    number: u32,
     origin: OriginRange,
 }
 
-// A header settled. One that is too long settles into nothing: the calls refuse it before.
-fn settle_header(header: &[u8]) -> Kept
-    ensures { λ r. ⌜ IsKept (now (header .entry)) r ⌝ }
-{
-    let mut bytes = [0u8; SETTLED_BYTES];
-    match settling::settle(header, &mut bytes) {
-        Settled::Header(f) => Kept {
-            bytes,
-            malformed: f.malformed,
-        },
-        Settled::TooLong => Kept {
-            bytes,
-            malformed: true,
-        },
-        Settled::NoRoom => Kept {
-            bytes,
-            malformed: true,
-        },
-    }
-}
-
-// A number, or the most that it may be.
-fn at_most(n: usize, most: usize) -> usize
-    ensures { λ r. ⌜ IsAtMost n most r ⌝ }
-{
-    if most < n {
-        return most;
-    }
-    n
-}
-
-// A text, and zeros past it; as much of it as an origin text can be long.
+// A text at the front of a room for an origin's.
 fn copied(s: &[u8]) -> [u8; ORIGIN_BYTES]
-    ensures { λ r. ⌜ StartsWith (now (s .entry)) r ⌝ }
+    requires { ⌜ length (now s) ≤ originBytes ⌝ }
+    ensures { λ r. ⌜ r ≡ filled originBytes (now (s .entry)) ⌝ }
 {
     let mut text = [0u8; ORIGIN_BYTES];
-    let n = at_most(s.len(), ORIGIN_BYTES);
-    let mut i: usize = 0;
-    while i < n {
-        text[i] = s[i];
-        i += 1;
-    }
+    lent_bytes::put_text(&mut text, 0, s);
     text
 }
 
@@ -84,140 +62,231 @@ fn copied(s: &[u8]) -> [u8; ORIGIN_BYTES]
 fn arrive(
     said: OriginText,
     origin: &[u8],
-    text: [u8; ORIGIN_BYTES],
+    own: &[u8],
+    number: u32,
     container: OriginRange,
     serial: u32,
 ) -> Arrival
-    ensures { λ r. ⌜ Arrives said (now (origin .entry)) text container serial r ⌝ }
+    requires { ⌜ (said ≡ originAs (originOf (now origin))) × (length (now own) ≤ originBytes) ⌝ }
+    ensures { λ r. ⌜ Arrives (now (origin .entry)) (now (own .entry)) number container serial r ⌝ }
 {
     match said {
-        OriginText::Empty => Arrival {
-            text,
-            origin: container,
-        },
+        OriginText::Empty => {
+            let text = copied(own);
+            Arrival {
+                text,
+                length: own.len(),
+                number,
+                origin: container,
+            }
+        }
         OriginText::Null => Arrival {
-            text,
+            text: [0u8; ORIGIN_BYTES],
+            length: 0,
+            number: serial,
             origin: OriginRange::Opaque(serial),
         },
         OriginText::Tuple(r) => {
-            let own = copied(origin);
+            let text = copied(origin);
             Arrival {
-                text: own,
+                text,
+                length: origin.len(),
+                number: 0,
                 origin: OriginRange::Tuple(r),
             }
         }
         OriginText::NotAnOrigin => Arrival {
-            text,
+            text: [0u8; ORIGIN_BYTES],
+            length: 0,
+            number: serial,
             origin: OriginRange::Opaque(serial),
         },
     }
 }
 
-// The record of a document at the top.
-pub fn top_document(serial: u32, origin: &[u8], header: &[u8]) -> NewDocument
-    ensures { λ r. ⌜ IsTopDocument (now (origin .entry)) (now (header .entry)) serial r ⌝ }
+fn small(x: usize) -> u32
+    requires { ⌜ x ≤ 65535 ⌝ }
+    ensures { λ r. ⌜ r ≡ x ⌝ }
+{
+    x as u32
+}
+
+// A document at the top.
+pub fn top_document(serial: u32, origin: &[u8]) -> NewDocument
+    ensures { λ r. ⌜ IsTopDocument (now (origin .entry)) serial r ⌝ }
 {
     let said = origins::origin_text(origin);
-    let k = settle_header(header);
     let a = arrive(
         said,
         origin,
-        [0u8; ORIGIN_BYTES],
+        &origin[..0],
+        serial,
         OriginRange::Opaque(serial),
         serial,
     );
-    let own = a.origin;
     let text = a.text;
-    let bytes = k.bytes;
+    let length = small(a.length);
     NewDocument {
-        document: Document {
-            serial,
-            above: [0; DOCUMENTS],
-            depth: 0,
-            origin: own,
-            text,
-            sandboxed: false,
-            inherited: decisions::ALL_FEATURES,
-            header: bytes,
-        },
-        malformed: k.malformed,
+        above: [0; ABOVE_BYTES],
+        depth: 0,
+        text,
+        length,
+        number: a.number,
+        sandboxed: false,
+        inherited: decisions::ALL_FEATURES,
     }
 }
 
-// The serials above a document in a frame of another: that one's, and the first `n` of those above it.
-fn above_in(c: Document, n: usize) -> [u32; DOCUMENTS]
-    requires { ⌜ n < documentLimit ⌝ }
-    ensures { λ r. ⌜ IsAbove c n r ⌝ }
+// The serials above a document in a frame of another: that one's, and those above it.
+fn above_in(c: &[u8], serial: u32) -> [u8; ABOVE_BYTES]
+    requires { ⌜ GoodSlot (now c) ⌝ }
+    ensures { λ r. ⌜ (r ≡ filled (4 * documentLimit) (bytesOf serial ++ aboveBytes (now (c .entry)))) × (serial < 2 ^ 32) ⌝ }
 {
-    let list = c.above;
-    let mut above = [0u32; DOCUMENTS];
-    above[0] = c.serial;
-    let mut i: usize = 0;
-    while i < n {
-        above[i + 1] = list[i];
-        i += 1;
-    }
+    let mut above = [0u8; ABOVE_BYTES];
+    lent_bytes::put_number(&mut above, 0, serial);
+    lent_bytes::put_text(&mut above, NUMBER, document_records::above(c));
     above
 }
 
-// The record of a document in a frame of another.
+// A document in a frame of another, which stands in a slot and has a serial.
 pub fn framed_document(
-    c: Document,
+    c: &[u8],
+    container: u32,
     serial: u32,
     origin: &[u8],
     src: &[u8],
     marks: FrameMarks,
     allow: &[u8],
     sandbox: &[u8],
-    header: &[u8],
 ) -> NewDocument
-    ensures { λ r. ⌜ IsFramedDocument c (now (origin .entry)) (now (header .entry)) (attributes (now (allow .entry)) marks (now (sandbox .entry)) (now (src .entry))) serial r ⌝ }
+    requires { ⌜ GoodSlot (now c) ⌝ }
+    ensures { λ r. ⌜ IsFramedDocument (now (c .entry)) container (now (origin .entry)) (attributes (now (allow .entry)) marks (now (sandbox .entry)) (now (src .entry))) serial r ⌝ }
 {
     let said = origins::origin_text(origin);
     let src_said = origins::origin_text(src);
-    let sandboxed = containers::is_sandboxed(c.sandboxed, marks.has_sandbox, sandbox);
+    let sandboxed = containers::is_sandboxed(
+        document_records::is_sandboxed(c),
+        marks.has_sandbox,
+        sandbox,
+    );
     let declared = containers::declared_origin(sandboxed, src_said);
-    let ctext = c.text;
-    let cown = c.origin;
-    let a = arrive(said, origin, ctext, cown, serial);
-    let own = a.origin;
+    let own = document_records::own_range(c);
+    let a = arrive(
+        said,
+        origin,
+        document_records::own_text(c),
+        lent_bytes::number(c, document_records::OPAQUE),
+        own,
+        serial,
+    );
     let text = a.text;
-    let here = document_records::is_declared(c, declared, src, &text, own);
+    let n = a.length;
+    let o = a.origin;
+    let here = &text[..n];
+    let is_declared = document_records::is_declared(c, declared, src, here, o);
     let inherited = document_records::inherited(
         c,
         allow,
         marks.allowfullscreen,
         marks.has_sandbox,
         sandbox,
+        is_declared,
         here,
-        &text,
-        own,
+        o,
     );
-    let n = at_most(c.depth, DOCUMENTS - 1);
-    let above = above_in(c, n);
-    let k = settle_header(header);
-    let bytes = k.bytes;
+    let above = above_in(c, container);
+    let depth = lent_bytes::number(c, document_records::DEPTH) + 1;
+    let length = small(n);
     NewDocument {
-        document: Document {
-            serial,
-            above,
-            depth: n + 1,
-            origin: own,
-            text,
-            sandboxed,
-            inherited,
-            header: bytes,
-        },
-        malformed: k.malformed,
+        above,
+        depth,
+        text,
+        length,
+        number: a.number,
+        sandboxed,
+        inherited,
     }
 }
 
+fn mark(yes: bool) -> u32
+    ensures { λ r. ⌜ r ≡ markOf yes ⌝ }
+{
+    if yes { 1 } else { 0 }
+}
+
+// Puts the numbers of a document into a slot.
+fn put_numbers(slot: &mut [u8], d: NewDocument)
+    requires { ⌜ slotBytes ≤ length (now slot) ⌝ }
+    ensures { λ _. ⌜ now (slot .exit) ≡ withText (now (slot .entry)) depthPlace (numberBytes (numbersOf d)) ⌝ }
+{
+    lent_bytes::put_number(slot, document_records::DEPTH, d.depth);
+    lent_bytes::put_number(slot, document_records::INHERITED, d.inherited);
+    lent_bytes::put_number(slot, document_records::OPAQUE, d.number);
+    lent_bytes::put_number(slot, document_records::OWN_LENGTH, d.length);
+    lent_bytes::put_number(slot, document_records::SANDBOXED, mark(d.sandboxed));
+}
+
+// Puts a document into a slot, but for its header and its decisions.
+fn put_front(slot: &mut [u8], d: NewDocument)
+    requires { ⌜ (slotBytes ≤ length (now slot)) × Fits d ⌝ }
+    ensures { λ _. ⌜ now (slot .exit) ≡ frontPut (now (slot .entry)) d ⌝ }
+{
+    let above = d.above;
+    let text = d.text;
+    let n = NUMBER * lent_bytes::wide(d.depth);
+    let m = lent_bytes::wide(d.length);
+    put_numbers(slot, d);
+    lent_bytes::put_text(slot, document_records::ABOVE, &above[..n]);
+    lent_bytes::put_text(slot, document_records::OWN_TEXT, &text[..m]);
+}
+
+// Settles a header into a slot; whether it was malformed.
+fn put_header(slot: &mut [u8], header: &[u8]) -> bool
+    requires { ⌜ (slotBytes ≤ length (now slot)) × (length (now header) ≤ textBytes) ⌝ }
+    ensures { λ r. ⌜ PutsHeader (now (slot .entry)) (now (header .entry)) (now (slot .exit)) r ⌝ }
+{
+    let from = document_records::SETTLED;
+    let to = document_records::SLOT_BYTES;
+    match settling::settle(header, &mut slot[from..to]) {
+        Settled::Header(f) => f.malformed,
+        Settled::TooLong => true,
+        Settled::NoRoom => true,
+    }
+}
+
+// Puts the two numbers of decisions into a slot.
+fn put_decisions(slot: &mut [u8])
+    requires { ⌜ Kept (now slot) ⌝ }
+    ensures { λ _. ⌜ now (slot .exit) ≡ decided (now (slot .entry)) ⌝ }
+{
+    let everywhere = document_records::everywhere_of(slot);
+    let enabled = document_records::enabled_of(slot);
+    lent_bytes::put_number(slot, document_records::EVERYWHERE, everywhere);
+    lent_bytes::put_number(slot, document_records::ENABLED, enabled);
+}
+
+// Writes a document with a header into a slot; whether the header was malformed.
+pub fn write_document(slot: &mut [u8], d: NewDocument, header: &[u8]) -> bool
+    requires { ⌜ (slotBytes ≤ length (now slot)) × Fits d × (length (now header) ≤ textBytes) ⌝ }
+    ensures { λ r. ⌜ Writes (now (slot .entry)) d (now (header .entry)) (now (slot .exit)) r ⌝ }
+{
+    put_front(slot, d);
+    let malformed = put_header(slot, header);
+    put_decisions(slot);
+    malformed
+}
+
 // What a frame in a document would inherit at its declared origin.
-pub fn foretold(c: Document, src: &[u8], marks: FrameMarks, allow: &[u8], sandbox: &[u8]) -> u32
-    ensures { λ r. ⌜ Foretells c (attributes (now (allow .entry)) marks (now (sandbox .entry)) (now (src .entry))) r ⌝ }
+pub fn foretold(c: &[u8], src: &[u8], marks: FrameMarks, allow: &[u8], sandbox: &[u8]) -> u32
+    requires { ⌜ Kept (now c) ⌝ }
+    ensures { λ r. ⌜ Foretells (now (c .entry)) (attributes (now (allow .entry)) marks (now (sandbox .entry)) (now (src .entry))) r ⌝ }
 {
     let said = origins::origin_text(src);
-    let sandboxed = containers::is_sandboxed(c.sandboxed, marks.has_sandbox, sandbox);
+    let sandboxed = containers::is_sandboxed(
+        document_records::is_sandboxed(c),
+        marks.has_sandbox,
+        sandbox,
+    );
     match containers::declared_origin(sandboxed, said) {
         DeclaredOrigin::Fresh => document_records::inherited(
             c,
@@ -230,9 +299,9 @@ pub fn foretold(c: Document, src: &[u8], marks: FrameMarks, allow: &[u8], sandbo
             OriginRange::Fresh,
         ),
         DeclaredOrigin::Container => {
-            let text = c.text;
-            let own = c.origin;
-            let same = document_records::is_own(c, &text, own);
+            let text = document_records::own_text(c);
+            let own = document_records::own_range(c);
+            let same = origins::same_origin(text, own, text, own);
             document_records::inherited(
                 c,
                 allow,
@@ -240,7 +309,7 @@ pub fn foretold(c: Document, src: &[u8], marks: FrameMarks, allow: &[u8], sandbo
                 marks.has_sandbox,
                 sandbox,
                 same,
-                &text,
+                text,
                 own,
             )
         }

@@ -8,33 +8,26 @@ use mathlib.Core.List.{List, [], _∷_, _++_, append-nil, append-assoc}
 use mathlib.Core.Option.{some, none}
 use borrow.Author.Tests.{eq-eqb, ne-eqb, eqb-true, eqb-false}
 use lib.Dec.{eqb}
-use lib.ListN.{length, set, take, drop, getD, length-take, drop-of-length-le}
-use lib.Seq.{drop-cons, getD-take, length-take-le, take-suc, set-at}
+use lib.ListN.{length, set, take, drop, getD, length-append}
+use lib.Seq.{drop-cons, length-take-le, take-suc, take-append-seam, set-at}
 use Rattle.ascii.specs.Bytes.{pick}
 use Rattle.document_model.specs.Model.{Identity, Document, valuesFrom, elem, find, isAtOrBeneath, remaining, removedCount, serialsBeneath, stored}
 use Rattle.document_model.proofs.Values.{values-snoc}
 
--- ---- a serial among the first n of a list, from place i on
+-- ---- a serial in a list
 
-module _ (l : List ℕ) (n i s z : ℕ) (le : n ≤ length l) (lt : i < n) where
-  rest-cons : drop i (take n l) ≡ getD l i z ∷ drop (i + 1) (take n l)
-  rest-cons =
-      let h : i < length (take n l) = rw (length-take-le n l le) lt in
-      rw (drop-cons (take n l) i z h, getD-take n l i z lt, add-one) refl
-
-  pub elem-here : getD l i z ≡ s → elem s (drop i (take n l)) ≡ true
+module _ (s x : ℕ) (l : List ℕ) where
+  pub elem-first : x ≡ s → elem s (x ∷ l) ≡ true
   unfolding elem
-  elem-here e = rw (rest-cons, eq-eqb s (getD l i z) (sym e)) refl
+  elem-first e = rw (eq-eqb s x (sym e)) refl
 
-  pub elem-on : (getD l i z ≡ s → ⊥) → elem s (drop i (take n l)) ≡ elem s (drop (i + 1) (take n l))
+  pub elem-next : (x ≡ s → ⊥) → elem s (x ∷ l) ≡ elem s l
   unfolding elem
-  elem-on e = rw (rest-cons, ne-eqb s (getD l i z) (λ q. e (sym q))) refl
+  elem-next e = rw (ne-eqb s x (λ q. e (sym q))) refl
 
-pub elem-end : (l : List ℕ) (n i s : ℕ) → n ≤ i → elem s (drop i (take n l)) ≡ false
+pub elem-nil : (s : ℕ) → elem s [] ≡ false
 unfolding elem
-elem-end l n i s le =
-    let h : length (take n l) ≤ i = rw (length-take n l) (omega arith) in
-    rw (drop-of-length-le (take n l) h) refl
+elem-nil s = refl
 
 -- ---- the document of a serial among the first n, from place i on
 
@@ -156,6 +149,17 @@ stored-more l run i z h k =
     let after : take (i + 1) l ++ drop (length (take (i + 1) l)) run ≡ take i l ++ (v ∷ drop (suc i) run) = rw (add-one, b, take-suc l i z h, append-assoc) refl in
     ap (λ (n : ℕ). set (take i l ++ drop n run) i v) a
     ∙ (ap (λ (m : List ℕ). set (take i l ++ m) i v) (drop-cons run i 0 k) ∙ (set-at (take i l) (getD run i 0) (drop (suc i) run) v i a ∙ sym after))
+
+pub stored-front : (l run : List ℕ) → take (length l) (stored l run) ≡ l
+unfolding stored
+stored-front l run = take-append-seam l (drop (length l) run)
+
+-- one serial more, behind those that stand there
+pub stored-snoc : (l run : List ℕ) (x : ℕ) → length l < length run → set (stored l run) (length l) x ≡ stored (l ++ (x ∷ [])) run
+unfolding stored
+stored-snoc l run x h =
+    ap (λ (m : List ℕ). set (l ++ m) (length l) x) (drop-cons run (length l) 0 h)
+    ∙ (set-at l (getD run (length l) 0) (drop (suc (length l)) run) x (length l) refl ∙ rw (length-append, add-one (length l), append-assoc) refl)
 
 -- one more stands in the run, and at last all do
 pub stored-on : (l before run : List ℕ) (n i z : ℕ) → n ≤ length l → n ≤ length before → i < n → run ≡ stored (take i l) before → set run i (getD l i z) ≡ stored (take (i + 1) l) before

@@ -13,4 +13,10 @@ pub use Rattle.document_model.proofs.Agreement.{Agrees, agrees}
 -- the first values of a function
 pub use Rattle.document_model.proofs.Values.{values-at, values-past, values-length, values-none, values-same, values-snoc}
 -- documents looked at one after the other: what is found, stays and is listed; serials stored into a run
-pub use Rattle.document_model.proofs.DocumentLists.{elem-here, elem-on, elem-end, find-here, find-on, find-end, at-or-beneath, remaining-none, remaining-goes, remaining-stays, removed-none, removed-goes, removed-stays, serials-none, serials-more, serials-same, stored-none, stored-more, stored-on, stored-end, beneath-fewer}
+pub use Rattle.document_model.proofs.DocumentLists.{elem-first, elem-next, elem-nil, find-here, find-on, find-end, at-or-beneath, remaining-none, remaining-goes, remaining-stays, removed-none, removed-goes, removed-stays, serials-none, serials-more, serials-same, stored-none, stored-front, stored-snoc, stored-more, stored-on, stored-end, beneath-fewer}
+-- the serials of the documents that calls leave rise from place to place
+pub use Rattle.document_model.proofs.Ascending.{serials-ascend, found-at}
+-- which outcomes a call can have
+pub use Rattle.document_model.proofs.Outcomes.{Asked, asked-not, asked-is, Told, told-not, told-is, Listed, listed-not, listed-is, Removed, removed-not, removed-is, Pushed, pushed-not, pushed-is, asked-outcome, told-enabled, told-forecast, listed-outcome, removed-outcome, top-outcome, framed-outcome}
+-- the documents at the places
+pub use Rattle.document_model.proofs.Tables.{in-values}

@@ -26,6 +26,26 @@ pub frame-declared : (c : Identity) (a : Attributes) → frameDeclared c a ≡ o
 unfolding frameDeclared
 frame-declared c a = refl
 
+pub declared-by : (h : Text) → declaredBy h ≡ valuesFrom (declares h) 0 featureCount
+unfolding declaredBy
+declared-by h = refl
+
+pub top-identity : (said : OriginSaid) (n : ℕ) → topIdentity said n ≡ record { serial = n; above = []; origin = arrivesAt said (opaque n) n; sandboxed = false }
+unfolding topIdentity
+top-identity said n = refl
+
+pub framed-identity : (c : Identity) (a : Attributes) (said : OriginSaid) (n : ℕ) → framedIdentity c a said n ≡ record { serial = n; above = c .serial ∷ c .above; origin = arrivesAt said (c .origin) n; sandboxed = frameSandboxed c a }
+unfolding framedIdentity
+framed-identity c a said n = refl
+
+pub top-document : (h : Text) (i : Identity) → topDocument h i ≡ record { identity = i; inherited = maskOf (λ k. inheritedTop); declared = declaredBy h }
+unfolding topDocument
+top-document h i = refl
+
+pub framed-document : (c : Document) (h : Text) (a : Attributes) (i : Identity) → framedDocument c h a i ≡ record { identity = i; inherited = maskOf (inheritedIn (policyOf c) (frameOf (c .identity) a) (i .origin)); declared = declaredBy h }
+unfolding framedDocument
+framed-document c h a i = refl
+
 pub top-parts : (h : Text) (said : OriginSaid) (n : ℕ) → topDocument h (topIdentity said n) ≡ record { identity = record { serial = n; above = []; origin = arrivesAt said (opaque n) n; sandboxed = false }; inherited = maskOf (λ k. inheritedTop); declared = valuesFrom (declares h) 0 featureCount }
 unfolding topDocument topIdentity declaredBy
 top-parts h said n = refl

@@ -22,7 +22,7 @@ use Rattle.document_model.specs.Runs.{leftBy, answersBy}
 use Rattle.document_model.specs.Model.{Text, isGoodOrigin, isNull, isGoodAtTop, Identity, Document, frameSandboxed, Table, find, serialsBeneath, Call, topLoad, framedLoad, unload, question, enabledFeatures, listing, forecastOf, Answer, refused, Outcome, refuse, accept, refuseUnless, withDocument, isShort, textsFit, load, fittingOutcome, outcome, answerIn, answerTo, tableLeft, tableAfter, answersAfter}
 use Rattle.document_model.specs.History.{Event, LoadedIn, BeneathIn, history}
 use Rattle.document_model.specs.Claims.{isAccepted}
-use Rattle.document_model.specs.Refusals.{Row, inputLong, badOrigin, badSrc, noFeature, notLoaded, sandboxed, full, spent, notDictionary, outputLong, small, place, refusalOf, Input, top-header, framed-header, framed-allow, framed-sandbox, forecast-allow, forecast-sandbox, Names, framed-names, unload-names, question-names, enabled-names, listing-names, forecast-names, IsLoad, is-top, is-framed, Holds, long, top-bad, top-empty, framed-bad, question-bad, framed-src, forecast-src, over-sixteen, closed, in-container, in-attribute, sixteen, all-given, short-run, First}
+use Rattle.document_model.specs.Refusals.{Row, inputLong, badOrigin, badSrc, noFeature, notLoaded, sandboxed, full, spent, notDictionary, outputLong, small, place, refusalOf, Input, top-header, framed-header, framed-allow, framed-sandbox, forecast-allow, forecast-sandbox, Names, framed-names, unload-names, question-names, enabled-names, listing-names, forecast-names, IsLoad, is-top, is-framed, Holds, long, top-bad, top-empty, framed-bad, question-bad, framed-src, forecast-src, over-sixteen, closed, in-container, in-attribute, all-loaded, all-given, short-run, First}
 use Rattle.document_model.proofs.Booleans.{and-no, not-either, not-or-true, order}
 use Rattle.document_model.proofs.OriginTexts.{good-not, is-null, not-good, not-null}
 use Rattle.document_model.proofs.Tables.{In, Finds, missing, hit, finds}
@@ -145,7 +145,7 @@ module _ (cs : List Call) where
   unfolding load
   load-verdict c is no-later b make identity =
       unless-verdict full Full refl (ltb (length (t .docs)) documentLimit) _
-      (λ e. sixteen (serialsWhere (λ w. true) (t .docs)) is (loaded-list cs) (omega (arith, ltb-false, room, reachable cs .few)))
+      (λ e. all-loaded (serialsWhere (λ w. true) (t .docs)) is (loaded-list cs) (omega (arith, ltb-false, room, reachable cs .few)))
       not-full
       (unless-verdict spent Spent refl (leb (t .next) lastSerial) _
       (λ e. let w = given-before cs lastSerial (omega arith) (omega (arith, leb-false)) in all-given is (w .happened) (w .gave))
@@ -153,7 +153,7 @@ module _ (cs : List Call) where
       (passed refl no-later))
     where
       not-full : ltb (length (tableAfter cs .docs)) documentLimit ≡ true → Holds (history cs) c full → ⊥
-      not-full e (sixteen l i a k) =
+      not-full e (all-loaded l i a k) =
           let z : l ≡ serialsWhere (λ w. true) (tableAfter cs .docs) = exactly-one (LoadedIn (history cs)) l (serialsWhere (λ w. true) (tableAfter cs .docs)) a (loaded-list cs) in
           let y : length l ≡ length (tableAfter cs .docs) = ap length z ∙ all-where (tableAfter cs .docs) in
           omega (arith, ltb-true)
@@ -202,7 +202,7 @@ module _ (cs : List Call) where
       gap q l b (top-bad z) = omega arith
       gap q l b (top-empty z) = omega arith
       gap q l b (closed s n f) = elim n [ ]
-      gap q l b (sixteen k i a z) = omega arith
+      gap q l b (all-loaded k i a z) = omega arith
       gap q l b (all-given i z g) = omega arith
 
       end : (q : Row) → 8 ≤ place q → Holds (history cs) (topLoad h o) q → ⊥
@@ -210,7 +210,7 @@ module _ (cs : List Call) where
       end q l (top-bad z) = omega arith
       end q l (top-empty z) = omega arith
       end q l (closed s n f) = elim n [ ]
-      end q l (sixteen k i a z) = omega arith
+      end q l (all-loaded k i a z) = omega arith
       end q l (all-given i z g) = omega arith
   fitting-verdict (framedLoad c h o a) =
       unless-verdict badOrigin BadOrigin refl (isGoodOrigin (originOf o)) _ (λ z. framed-bad (not-good (originOf o) z)) good
@@ -234,7 +234,7 @@ module _ (cs : List Call) where
       gap q l b (closed s n f) = omega arith
       gap q l b (in-container y f) = omega arith
       gap q l b (in-attribute y f) = omega arith
-      gap q l b (sixteen k i y z) = omega arith
+      gap q l b (all-loaded k i y z) = omega arith
       gap q l b (all-given i z g) = omega arith
 
       end : (q : Row) → 8 ≤ place q → Holds (history cs) (framedLoad c h o a) q → ⊥
@@ -244,7 +244,7 @@ module _ (cs : List Call) where
       end q l (closed s n f) = omega arith
       end q l (in-container y f) = omega arith
       end q l (in-attribute y f) = omega arith
-      end q l (sixteen k i y z) = omega arith
+      end q l (all-loaded k i y z) = omega arith
       end q l (all-given i z g) = omega arith
   fitting-verdict (unload s) =
       extend 1 4 (omega arith) gap (with-verdict (unload s) s unload-names only _ (λ d m e. passed refl end) (find s (t .docs)) (finds s (t .docs)))
@@ -255,13 +255,13 @@ module _ (cs : List Call) where
       gap : (q : Row) → 1 ≤ place q → place q < 4 → Holds (history cs) (unload s) q → ⊥
       gap q l b (long x i z) = elim i [ ]
       gap q l b (closed k n f) = omega arith
-      gap q l b (sixteen k i y z) = elim i [ ]
+      gap q l b (all-loaded k i y z) = elim i [ ]
       gap q l b (all-given i z g) = elim i [ ]
 
       end : (q : Row) → 5 ≤ place q → Holds (history cs) (unload s) q → ⊥
       end q l (long x i z) = elim i [ ]
       end q l (closed k n f) = omega arith
-      end q l (sixteen k i y z) = elim i [ ]
+      end q l (all-loaded k i y z) = elim i [ ]
       end q l (all-given i z g) = elim i [ ]
   fitting-verdict (question s f o) =
       unless-verdict badOrigin BadOrigin refl (isGoodOrigin (originOf o)) _ (λ z. question-bad (not-good (originOf o) z)) good
@@ -283,7 +283,7 @@ module _ (cs : List Call) where
       gap q l b (question-bad y) = omega arith
       gap q l b (over-sixteen y) = omega arith
       gap q l b (closed k n g) = omega arith
-      gap q l b (sixteen k i y z) = elim i [ ]
+      gap q l b (all-loaded k i y z) = elim i [ ]
       gap q l b (all-given i z g) = elim i [ ]
 
       end : (q : Row) → 5 ≤ place q → Holds (history cs) (question s f o) q → ⊥
@@ -291,7 +291,7 @@ module _ (cs : List Call) where
       end q l (question-bad y) = omega arith
       end q l (over-sixteen y) = omega arith
       end q l (closed k n g) = omega arith
-      end q l (sixteen k i y z) = elim i [ ]
+      end q l (all-loaded k i y z) = elim i [ ]
       end q l (all-given i z g) = elim i [ ]
   fitting-verdict (enabledFeatures s) =
       extend 1 4 (omega arith) gap (with-verdict (enabledFeatures s) s enabled-names only _ (λ d m e. passed refl end) (find s (t .docs)) (finds s (t .docs)))
@@ -302,13 +302,13 @@ module _ (cs : List Call) where
       gap : (q : Row) → 1 ≤ place q → place q < 4 → Holds (history cs) (enabledFeatures s) q → ⊥
       gap q l b (long x i z) = elim i [ ]
       gap q l b (closed k n f) = omega arith
-      gap q l b (sixteen k i y z) = elim i [ ]
+      gap q l b (all-loaded k i y z) = elim i [ ]
       gap q l b (all-given i z g) = elim i [ ]
 
       end : (q : Row) → 5 ≤ place q → Holds (history cs) (enabledFeatures s) q → ⊥
       end q l (long x i z) = elim i [ ]
       end q l (closed k n f) = omega arith
-      end q l (sixteen k i y z) = elim i [ ]
+      end q l (all-loaded k i y z) = elim i [ ]
       end q l (all-given i z g) = elim i [ ]
   fitting-verdict (listing s run) =
       extend 1 4 (omega arith) gap
@@ -327,21 +327,21 @@ module _ (cs : List Call) where
       gap : (q : Row) → 1 ≤ place q → place q < 4 → Holds (history cs) (listing s run) q → ⊥
       gap q l b (long x i z) = elim i [ ]
       gap q l b (closed k n f) = omega arith
-      gap q l b (sixteen k i y z) = elim i [ ]
+      gap q l b (all-loaded k i y z) = elim i [ ]
       gap q l b (all-given i z g) = elim i [ ]
       gap q l b (short-run k i z) = omega arith
 
       gap′ : (q : Row) → 5 ≤ place q → place q < 10 → Holds (history cs) (listing s run) q → ⊥
       gap′ q l b (long x i z) = elim i [ ]
       gap′ q l b (closed k n f) = omega arith
-      gap′ q l b (sixteen k i y z) = elim i [ ]
+      gap′ q l b (all-loaded k i y z) = elim i [ ]
       gap′ q l b (all-given i z g) = elim i [ ]
       gap′ q l b (short-run k i z) = omega arith
 
       end : (q : Row) → 11 ≤ place q → Holds (history cs) (listing s run) q → ⊥
       end q l (long x i z) = elim i [ ]
       end q l (closed k n f) = omega arith
-      end q l (sixteen k i y z) = elim i [ ]
+      end q l (all-loaded k i y z) = elim i [ ]
       end q l (all-given i z g) = elim i [ ]
       end q l (short-run k i z) = omega arith
   fitting-verdict (forecastOf c a) =
@@ -360,21 +360,21 @@ module _ (cs : List Call) where
       gap q l b (long x i z) = omega arith
       gap q l b (forecast-src y) = omega arith
       gap q l b (closed k n f) = omega arith
-      gap q l b (sixteen k i y z) = elim i [ ]
+      gap q l b (all-loaded k i y z) = elim i [ ]
       gap q l b (all-given i z g) = elim i [ ]
 
       gap′ : (q : Row) → 3 ≤ place q → place q < 4 → Holds (history cs) (forecastOf c a) q → ⊥
       gap′ q l b (long x i z) = omega arith
       gap′ q l b (forecast-src y) = omega arith
       gap′ q l b (closed k n f) = omega arith
-      gap′ q l b (sixteen k i y z) = elim i [ ]
+      gap′ q l b (all-loaded k i y z) = elim i [ ]
       gap′ q l b (all-given i z g) = elim i [ ]
 
       end : (q : Row) → 5 ≤ place q → Holds (history cs) (forecastOf c a) q → ⊥
       end q l (long x i z) = omega arith
       end q l (forecast-src y) = omega arith
       end q l (closed k n f) = omega arith
-      end q l (sixteen k i y z) = elim i [ ]
+      end q l (all-loaded k i y z) = elim i [ ]
       end q l (all-given i z g) = elim i [ ]
 
   verdict : (c : Call) → Verdict es c 0 (outcome c t)

@@ -58,9 +58,9 @@ number-loaded cs l a =
     let e : length l ≡ length (tableAfter cs .docs) = ap length (exactly-one (LoadedIn (history cs)) l (serialsWhere (λ w. true) (tableAfter cs .docs)) a (loaded-list cs)) ∙ all-where (tableAfter cs .docs) in
     omega (arith, counted cs .number)
 
--- "At most 16 documents"
-pub at-most-sixteen : (cs : List Call) (l : List ℕ) → AreLoaded (history cs) l → length l ≤ documentLimit
-at-most-sixteen cs l a =
+-- "At most" so many "documents" as the limit says
+pub at-most-limit : (cs : List Call) (l : List ℕ) → AreLoaded (history cs) l → length l ≤ documentLimit
+at-most-limit cs l a =
     let e : length l ≡ length (tableAfter cs .docs) = ap length (exactly-one (LoadedIn (history cs)) l (serialsWhere (λ w. true) (tableAfter cs .docs)) a (loaded-list cs)) ∙ all-where (tableAfter cs .docs) in
     omega (arith, reachable cs .few)
 

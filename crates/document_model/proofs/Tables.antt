@@ -1,6 +1,6 @@
 -- Lists of documents in serial order: what `find` finds, what an unload leaves, and that a serial names one document. Assumes nothing.
 use mathlib.Core.Path.{_≡_, refl, ap, subst, _∙_}
-use Prim.Native.Nat.{ℕ, suc, _+_, _≤_, _<_}
+use Prim.Native.Nat.{ℕ, zero, suc, _+_, _≤_, _<_}
 use native.Mathlib.Omega.{arith}
 use mathlib.Core.Bool.{Bool, true, false}
 use mathlib.Core.Option.{Option, none, some}
@@ -9,7 +9,7 @@ use lib.Dec.{T, eqb, eqb→eq, eqb-refl}
 use lib.ListN.{length}
 use Rattle.ascii.proofs.Clash.{clash}
 use Rattle.ascii.specs.Bytes.{pick}
-use Rattle.document_model.specs.Model.{Document, elem, isAtOrBeneath, find, remaining, removedCount}
+use Rattle.document_model.specs.Model.{Document, valuesFrom, elem, isAtOrBeneath, find, remaining, removedCount}
 use Rattle.document_model.proofs.Booleans.{eqb-self, is-false, or-neither}
 
 -- ---- documents in a list
@@ -17,6 +17,11 @@ use Rattle.document_model.proofs.Booleans.{eqb-self, is-false, or-neith
 pub data In (x : Document) : List Document → Type 0 where
   here : {l : List Document} → In x (x ∷ l)
   there : {y : Document} {l : List Document} → In x l → In x (y ∷ l)
+
+pub in-values : (f : ℕ → Document) (k i j : ℕ) → j < k → In (f (i + j)) (valuesFrom f i k)
+unfolding valuesFrom
+in-values f (suc k) i zero h = let e : i + 0 ≡ i = omega arith in rw e here
+in-values f (suc k) i (suc j) h = let e : i + suc j ≡ suc i + j = omega arith in rw e (there (in-values f k (suc i) j (omega arith)))
 
 pub in-left : {x : Document} {ds : List Document} (es : List Document) → In x ds → In x (ds ++ es)
 in-left es here = here

@@ -82,8 +82,8 @@ pub record SerialsAndCounts (who : Answering) : Type 0 where
   pub serials-in-order : (cs : List Call) → given (who .answers cs) ≡ valuesFrom (λ n. n) 1 (length (given (who .answers cs)))
   -- "The number loaded equals accepted loads minus the sum of the unload answers."
   pub number-loaded : (cs : List Call) (l : List ℕ) → AreLoaded (who .history cs) l → length l + unloadSum (who .history cs) ≡ acceptedLoads (who .history cs)
-  -- "At most 16 documents"
-  pub at-most-sixteen : (cs : List Call) (l : List ℕ) → AreLoaded (who .history cs) l → length l ≤ documentLimit
+  -- "At most" so many "documents" as the limit says
+  pub at-most-limit : (cs : List Call) (l : List ℕ) → AreLoaded (who .history cs) l → length l ≤ documentLimit
   -- "the serials beneath a document, ascending"
   pub listing-exactly : (cs : List Call) (s n : ℕ) (run run′ l : List ℕ) → who .answerAfter cs (listing s run) ≡ serials n run′ → AreBeneath (who .history cs) s l → Listed n run′ run l
   -- "Unloading removes a document and all beneath it and answers how many": "it must equal the documents that went", those loaded before and not after

@@ -6,6 +6,7 @@ use mathlib.Core.Bool.{true, false}
 use mathlib.Core.List.{List, [], _∷_, _++_, map}
 use native.Mathlib.Omega.{arith}
 use Rattle.ascii.specs.Literals.{text}
+use Rattle.origins.specs.Origins.{originOf}
 use Rattle.items.specs.Items.Item.{token, string}
 use Rattle.dictionaries.specs.OneItemMore.{OneItemMore}
 use Rattle.pieces.specs.OneWordMore.{OneWordMore}
@@ -14,7 +15,7 @@ use Rattle.containers.specs.Policies.{isSemicolon}
 use Rattle.containers.specs.Widening.{OneKeywordMore}
 use Rattle.decisions.specs.Decisions.Decision.{disabled, enabled}
 use Rattle.document_model.specs.Runs.{answersBy}
-use Rattle.document_model.specs.Model.{Text, Table, Call, topLoad, framedLoad, unload, question, enabledFeatures, listing, forecastOf, Answer, refused, loaded, removed, decision, features, serials, answerTo, tableLeft, tableAfter, answers}
+use Rattle.document_model.specs.Model.{Text, Table, valuesFrom, topIdentity, topDocument, Call, topLoad, framedLoad, unload, question, enabledFeatures, listing, forecastOf, Answer, refused, loaded, removed, decision, features, serials, answerTo, tableLeft, answers}
 use Rattle.document_model.specs.Computing.{computing}
 
 abbrev pub camera : ℕ
@@ -131,10 +132,6 @@ sameOriginRun sandbox = top [] ∷ sandboxFrame sandbox ∷ framedLoad 2 [] (tex
 
 -- ---- all runs
 
-abbrev many : ℕ → List Call
-many zero = []
-many (suc n) = topLoad [] (text "null") ∷ many n
-
 abbrev long : ℕ → Text
 long zero = []
 long (suc n) = 32 ∷ long n
@@ -203,9 +200,9 @@ rows =
           question 9 17 (text "https://a.example:443")
           ∷ question 9 17 []
           ∷ question 9 16 []
-          ∷ topLoad (long 1025) []
-          ∷ topLoad (long 1024) []
-          ∷ framedLoad 9 [] (text "null") (record { allow = []; allowfullscreen = false; hasSandbox = false; sandbox = long 1025; src = text "x" })
+          ∷ topLoad (long 4097) []
+          ∷ topLoad (long 4096) []
+          ∷ framedLoad 9 [] (text "null") (record { allow = []; allowfullscreen = false; hasSandbox = false; sandbox = long 4097; src = text "x" })
           ∷ framedLoad 9 [] (text "null") (record { allow = []; allowfullscreen = false; hasSandbox = false; sandbox = []; src = text "x" })
           ∷ framedLoad 9 [] (text "https://b.example") (withSandbox "" "")
           ∷ [];
@@ -238,21 +235,19 @@ rows =
       calls = top [] ∷ forecastOf 1 wide ∷ framedLoad 1 (text "forms=(), usb=()") (text "https://b.example") wide ∷ enabledFeatures 2 ∷ [];
       expected = loaded 1 false ∷ features 130460 ∷ loaded 2 false ∷ features 64916 ∷ [];
     }
-    -- the seventeenth load; a forecast is no load, and answers on a full table too
-    ∷ record { calls = many 17 ++ (forecastOf 1 (allowing "") ∷ []); expected = map (λ n. loaded n false) (1 ∷ 2 ∷ 3 ∷ 4 ∷ 5 ∷ 6 ∷ 7 ∷ 8 ∷ 9 ∷ 10 ∷ 11 ∷ 12 ∷ 13 ∷ 14 ∷ 15 ∷ 16 ∷ []) ++ (refused 6 ∷ features 64908 ∷ []) }
     ∷ []
 
 rows-right : map (λ r. answers (r .calls)) rows ≡ map (λ r. r .expected) rows
 unfolding computing rows
 rows-right = refl
 
--- ---- refusal 7, which no list of calls that can be written out gets: from a table with fifteen documents whose next serial is 4,294,967,295
+-- ---- the sixty-fifth load, and refusal 7, which no list of calls that can be written out gets: from a table with sixty-three documents whose next serial is 4,294,967,295
 
 abbrev late : Table
-late = record { docs = tableAfter (many 15) .docs; next = 4294967295 }
+late = record { docs = valuesFrom (λ n. topDocument [] (topIdentity (originOf (text "null")) n)) 1 63; next = 4294967295 }
 
--- that serial is given, the next load gets 6 on the full table and else 7, and questions still answer
-late-right : answersBy answerTo tableLeft (topLoad [] (text "null") ∷ topLoad [] (text "null") ∷ unload 1 ∷ topLoad [] (text "null") ∷ question 4294967295 camera [] ∷ []) late
-    ≡ loaded 4294967295 false ∷ refused 6 ∷ removed 1 ∷ refused 7 ∷ decision enabled ∷ []
+-- that serial is given, the next load gets 6 on the full table and else 7, and questions still answer; a forecast is no load, and answers on a full table too
+late-right : answersBy answerTo tableLeft (topLoad [] (text "null") ∷ topLoad [] (text "null") ∷ forecastOf 1 (allowing "") ∷ unload 1 ∷ topLoad [] (text "null") ∷ question 4294967295 camera [] ∷ []) late
+    ≡ loaded 4294967295 false ∷ refused 6 ∷ features 64908 ∷ removed 1 ∷ refused 7 ∷ decision enabled ∷ []
 unfolding computing
 late-right = refl

@@ -207,7 +207,7 @@ unfoldable pub withDocument : Option Document → (Document → Outcome) → Out
 withDocument none k = refuse NotLoaded
 withDocument (some d) k = k d
 
--- refusal 4: "header, allow or sandbox text over 1,024"
+-- refusal 4: "header, allow or sandbox text over" the limit
 abbrev pub isShort : Text → Bool
 isShort s = leb (length s) textBytes
 

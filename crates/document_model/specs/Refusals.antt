@@ -70,7 +70,7 @@ pub data IsLoad : Call → Type 0 where
 
 -- the condition of a row
 pub data Holds (es : List Event) : Call → Row → Type 0 where
-  -- 4: "header, allow or sandbox text over 1,024"
+  -- 4: "header, allow or sandbox text over" the limit
   long : {c : Call} (x : Text) → Input c x → textBytes < length x → Holds es c inputLong
   -- 3: "an origin text outside the grammar, or empty for a top-level load"
   top-bad : {h o : Text} → originOf o ≡ noOrigin → Holds es (topLoad h o) badOrigin
@@ -87,8 +87,8 @@ pub data Holds (es : List Event) : Call → Row → Type 0 where
   -- 5: "a sandboxed load whose origin text isn't `null`"
   in-container : {c : ℕ} {h o : Text} {a : Attributes} → SandboxedIn es c → (originOf o ≡ saysNull → ⊥) → Holds es (framedLoad c h o a) sandboxed
   in-attribute : {c : ℕ} {h o : Text} {a : Attributes} → sandboxes a ≡ true → (originOf o ≡ saysNull → ⊥) → Holds es (framedLoad c h o a) sandboxed
-  -- 6: "a load, while 16 are loaded"
-  sixteen : {c : Call} (l : List ℕ) → IsLoad c → AreLoaded es l → length l ≡ documentLimit → Holds es c full
+  -- 6: "a load, while" as many as can be "are loaded"
+  all-loaded : {c : Call} (l : List ℕ) → IsLoad c → AreLoaded es l → length l ≡ documentLimit → Holds es c full
   -- 7: "a load, after serial 4,294,967,295 was given"
   all-given : {c k : Call} {a : Answer} → IsLoad c → Happened k a es → Gave k a lastSerial → Holds es c spent
   -- 9: "the lent run is too short for the whole output"

@@ -1,4 +1,4 @@
--- What a frame of a document's record inherits, in the terms of the code. Assumes nothing.
+-- What a frame of a slot's document inherits, in the terms of the code. Assumes nothing.
 use mathlib.Core.Path.{_≡_, refl, ap, _∙_, sym}
 use Prim.Native.Nat.{ℕ, _+_, _≤_, _<_}
 use mathlib.Core.List.{List}
@@ -22,6 +22,7 @@ use Rattle.origins.specs.declared.OriginRange.the-variants as range
 use Rattle.origins.proofs.Laws.{fresh-left}
 use Rattle.allowlists.specs.Allowlists.{Allowlist, someAdmits}
 use Rattle.allowlists.specs.Answers.{admissionAs, admissionIn}
+use Rattle.allowlists.proofs.Laws.{admission-back}
 use Rattle.allowlists.specs.declared.Admission.{Admission}
 use Rattle.containers.specs.Policies.{attributePolicy}
 use Rattle.containers.specs.Answers.{policyIn, IsPolicies, declaredIn}
@@ -36,9 +37,10 @@ use Rattle.decisions.specs.Answers.{decisionIn, decisionsIn}
 use Rattle.decisions.specs.declared.Decision.{Decision as Answer}
 use Rattle.decisions.specs.declared.Decision.the-variants as answer
 use Rattle.decisions.proofs.Laws.{inherited-says, inherited-parts, mask-places}
-use Rattle.document_records.specs.Records.{ownOrigin, recordPolicy, IsDeclaredOrigin, Inherits, IsInherited}
-use Rattle.document_records.specs.declared.Document.{Document}
-use Rattle.document_records.proofs.Deciding.{record-own}
+use Rattle.document_records.specs.Slots.{ownText, ownOrigin, slotPolicy}
+use Rattle.document_records.specs.Records.{IsArriving, IsDeclaredOrigin, inheritedTold, Inherits, IsInherited}
+use Rattle.document_records.specs.declared.Arriving.{Arriving}
+use Rattle.document_records.proofs.Laws.{slot-own}
 
 -- the declared origin, case by case
 module _ (c : Origin) (d : DeclaredOrigin) (src : List ℕ) (o : Origin) where
@@ -60,20 +62,25 @@ module _ (c : Origin) (d : DeclaredOrigin) (src : List ℕ) (o : Origin) where
 pub ruleset declareds = (declared-fresh, declared-container, declared-src, declared-none)
 
 -- *Inherited* of a feature, by its parts
-pub inherits-is : (c : Document) (n : ℕ) (allowed : Option Allowlist) (isDeclared same : Bool) (o : Origin) (v w r : Answer) (a : Admission) (default : DefaultOf)
-    → decisionIn v ≡ valueIn (recordPolicy c) n (ownOrigin c)
-    → decisionIn w ≡ valueIn (recordPolicy c) n o
-    → same ≡ sameOrigin (ownOrigin c) o
-    → a ≡ admissionAs (someAdmits allowed same isDeclared o)
+pub inherits-is : (slot : List ℕ) (n : ℕ) (allowed : Option Allowlist) (a : Arriving) (o : Origin) (u : List ℕ) (v w r : Answer) (d : Admission) (default : DefaultOf)
+    → IsArriving slot o a
+    → u ≡ ownText slot
+    → decisionIn v ≡ valueIn (slotPolicy slot) n (originIn u (a .own))
+    → decisionIn w ≡ valueIn (slotPolicy slot) n o
+    → d ≡ admissionAs (someAdmits allowed (a .same) (a .declared) o)
     → defaultIn default ≡ defaultOf n
-    → decisionIn r ≡ inheritedBy (decisionIn v) (decisionIn w) (admissionIn a) (defaultIn default) same
-    → Inherits (recordPolicy c) n allowed isDeclared o (decisionIn r)
-inherits-is c n allowed isDeclared same o v w r a default e f g h k is =
+    → decisionIn r ≡ inheritedBy (decisionIn v) (decisionIn w) (admissionIn d) (defaultIn default) (a .same)
+    → Inherits (slotPolicy slot) n allowed (a .declared) o (decisionIn r)
+inherits-is slot n allowed a o u v w r d default at eu e f h k is =
     record {
+      told = is ∙ rw (e, f, h, admission-back (someAdmits allowed (a .same) (a .declared) o), k, at .same, eu, at .own, ← (slot-own slot)) refl;
       says = λ x q.
-          inherited-says allowed (ownOrigin c) x o same isDeclared a g q h v w r default is
-          ∙ rw (e, f, k, ← (record-own c));
+          inherited-says allowed (ownOrigin slot) x o (a .same) (a .declared) d (at .same) q h v w r default is
+          ∙ rw (e, f, k, eu, at .own, ← (slot-own slot));
     }
+
+pub own-value : (slot u : List ℕ) (a : Arriving) (o : Origin) → IsArriving slot o a → u ≡ ownText slot → a .itself ≡ sameOrigin (ownOrigin slot) (originIn u (a .own))
+own-value slot u a o at eu = at .itself ∙ ap (sameOrigin (ownOrigin slot)) (sym (ap (λ (l : List ℕ). originIn l (a .own)) eu ∙ at .own))
 
 -- decisions stored one after the other
 pub record Stored (p : Policy) (allow : List ℕ) (mark : Bool) (sandbox : Option (List (List ℕ))) (isDeclared : Bool) (o : Origin) (i : ℕ) (all : List Answer) : Type 0 where
@@ -82,18 +89,21 @@ pub record Stored (p : Policy) (allow : List ℕ) (mark : Bool) (sandbox : Optio
 pub none-stored : (p : Policy) (allow : List ℕ) (mark : Bool) (sandbox : Option (List (List ℕ))) (isDeclared : Bool) (o : Origin) (all : List Answer) → Stored p allow mark sandbox isDeclared o 0 all
 none-stored p allow mark sandbox isDeclared o all = record { each = λ n h. absurd (omega arith) }
 
-pub one-stored : (p : Policy) (allow : List ℕ) (mark : Bool) (sandbox : Option (List (List ℕ))) (isDeclared : Bool) (o : Origin) (i : ℕ) (all : List Answer) (ps : List ContainerPolicy) (x : ContainerPolicy) (r : Answer) → Stored p allow mark sandbox isDeclared o i all → length all ≡ featureCount → i < featureCount → IsPolicies allow mark sandbox ps → x ≡ getD ps i policy.None → Inherits p i (policyIn allow x) isDeclared o (decisionIn r) → Stored p allow mark sandbox isDeclared o (i + 1) (set all i r)
-one-stored p allow mark sandbox isDeclared o i all ps x r st long h is e f = record { each = λ n m. go n m (eqb n i) refl }
+pub one-stored : (p : Policy) (allow : List ℕ) (mark : Bool) (sandbox : Option (List (List ℕ))) (isDeclared : Bool) (o : Origin) (i : ℕ) (all : List Answer) (ps : List ContainerPolicy) (x : ContainerPolicy) (d : Bool) (r : Answer) → d ≡ isDeclared → Stored p allow mark sandbox isDeclared o i all → length all ≡ featureCount → i < featureCount → IsPolicies allow mark sandbox ps → x ≡ getD ps i policy.None → Inherits p i (policyIn allow x) d o (decisionIn r) → Stored p allow mark sandbox isDeclared o (i + 1) (set all i r)
+one-stored p allow mark sandbox isDeclared o i all ps x d r ed st long h is e f = record { each = λ n m. go n m (eqb n i) refl }
   where
     go : (n : ℕ) → n < i + 1 → (b : Bool) → eqb n i ≡ b → Inherits p n (attributePolicy allow mark sandbox n) isDeclared o (decisionIn (getD (set all i r) n answer.Disabled))
     go n m true t =
         let u : n ≡ i = eqb-true n i t in
         let lt : i < length all = omega arith in
-        rw (u, getD-set-same all i r answer.Disabled lt, ← (is .says i h), ← e) f
+        rw (u, getD-set-same all i r answer.Disabled lt, ← (is .says i h), ← e, ← ed) f
     go n m false t =
         let u : n ≡ i → ⊥ = eqb-false n i t in
         rw (getD-set-other all i n r answer.Disabled u) (st .each n (omega arith))
 
 pub inherited-is : (p : Policy) (allow : List ℕ) (mark : Bool) (sandbox : Option (List (List ℕ))) (isDeclared : Bool) (o : Origin) (i : ℕ) (all : List Answer) (r : ℕ) → Stored p allow mark sandbox isDeclared o i all → featureCount ≤ i → r ≡ maskOf (decisionsIn all) → IsInherited p allow mark sandbox isDeclared o r
 inherited-is p allow mark sandbox isDeclared o i all r st h e =
-    record { says = λ f g q. e ∙ mask-places all (inheritedIn p f o) (λ n lt. st .each n (omega arith) .says (f .declared) q ∙ (rw (← (g n)) (sym (inherited-parts p n o f)))) }
+    record {
+      told = e ∙ mask-places all (λ n. inheritedTold p n (attributePolicy allow mark sandbox n) isDeclared o) (λ n lt. st .each n (omega arith) .told);
+      says = λ f g q. e ∙ mask-places all (inheritedIn p f o) (λ n lt. st .each n (omega arith) .says (f .declared) q ∙ (rw (← (g n)) (sym (inherited-parts p n o f))));
+    }

@@ -1,4 +1,4 @@
+pub mod Laws
+pub mod Reading
 pub mod Deciding
 pub mod Inheriting
-pub mod Laws
-pub mod Parts

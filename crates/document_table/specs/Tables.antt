@@ -1,81 +1,67 @@
--- The table's struct in the terms of the model of the calls, place by place.
-use Prim.Native.Nat.{ℕ, suc, _+_, _≤_, _<_}
+-- What holds of a table in lent memory, and what the functions on it promise.
+use Prim.Native.Nat.{ℕ, _+_, _≤_, _<_}
 use mathlib.Core.Path.{_≡_}
-use mathlib.Core.List.{List, [], _∷_, _++_}
-use mathlib.Core.Bool.{Bool, false}
-use mathlib.Core.Option.{Option, some, none}
-use lib.ListN.{length, getD, take, replicate}
-use Rattle.limits.specs.Limits.{documentLimit, lastSerial}
-use Rattle.origins.specs.declared.OriginRange.the-variants as origin
-use Rattle.document_model.specs.Model.{Document as ModelDocument, Table as ModelTable, valuesFrom, elem, find, remaining, removedCount, serialsBeneath}
-use Rattle.document_records.specs.Records.{originBytes, settledLimit, documentIn}
-use Rattle.document_records.specs.declared.Document.{Document}
-use Rattle.document_table.specs.declared.Table.{Table}
+use mathlib.Core.List.{List}
+use mathlib.Core.Bool.{_&&_}
+use mathlib.Core.Option.{some, none}
+use lib.Dec.{ltb, leb}
+use lib.ListN.{length, replicate}
+use Rattle.ascii.specs.Bytes.{pick}
+use Rattle.limits.specs.Limits.{documentLimit}
+use Rattle.document_model.specs.Model.{find, remaining, removedCount, serialsBeneath, stored}
+use Rattle.document_records.specs.Slots.{GoodSlot}
+use Rattle.document_table.specs.Layout.{tableBytes, mark, markIn, countIn, lastIn, serialAt, slotNumber, slotOf, docAt, docsIn, removedRun}
 use Rattle.document_table.specs.declared.Found.{Found}
 use Rattle.document_table.specs.declared.Found.the-variants as found
 use Rattle.document_table.specs.declared.Serials.{Serials}
 
--- what stands in a place that no document has
-abbrev pub noDocument : Document
-noDocument =
-    record { serial = 0; above = replicate documentLimit 0; depth = 0; origin = origin.Fresh; text = replicate originBytes 0; sandboxed = false; inherited = 0; header = replicate settledLimit 0 }
+-- what the functions on a table need of its bytes: it is marked, each place of the directory has a slot of its own, and those of the documents are good
+pub record Sound (run : List ℕ) : Type 0 where
+  pub long : tableBytes ≤ length run
+  pub marked : markIn run ≡ mark
+  pub count : countIn run ≤ documentLimit
+  pub slots : (i : ℕ) → i < documentLimit → slotNumber run i < documentLimit
+  pub apart : (i j : ℕ) → i < documentLimit → j < documentLimit → slotNumber run i ≡ slotNumber run j → i ≡ j
+  pub good : (i : ℕ) → i < countIn run → GoodSlot (slotOf run (slotNumber run i))
 
--- the record at a place: nothing else knows how the table keeps its documents
-abbrev pub recordAt : Table → ℕ → Document
-recordAt t i = getD (t .docs) i noDocument
-
--- and the document there
-unfoldable pub docAt : Table → ℕ → ModelDocument
-docAt t i = documentIn (recordAt t i)
-
--- the documents in order, and the next serial
-unfoldable pub docsIn : Table → List ModelDocument
-docsIn t = valuesFrom (docAt t) 0 (t .count)
-
-abbrev pub view : Table → ModelTable
-view t = record { docs = docsIn t; next = t .next }
-
--- what the functions on a table need of it: its places, and those of each document's serials above it
-pub record Sound (t : Table) : Type 0 where
-  pub count : t .count ≤ documentLimit
-  pub deep : (i : ℕ) → i < t .count → recordAt t i .depth ≤ documentLimit
+-- serials rise; of a table that calls left this is a law of the model
+pub record Ascends (run : List ℕ) : Type 0 where
+  pub up : (i j : ℕ) → i < j → j < countIn run → serialAt run i < serialAt run j
 
 -- a serial's place, and the document there; or the serial names none
-pub record IsFound (t : Table) (serial : ℕ) (r : Found) : Type 0 where
-  pub some-at : (i : ℕ) → r ≡ found.At i → (i < t .count) × (find serial (docsIn t) ≡ some (docAt t i))
-  pub none-at : r ≡ found.None → find serial (docsIn t) ≡ none
+pub record IsFound (run : List ℕ) (serial : ℕ) (r : Found) : Type 0 where
+  pub some-at : (i : ℕ) → r ≡ found.At i → (i < countIn run) × (find serial (docsIn run) ≡ some (docAt run i)) × (serialAt run i ≡ serial)
+  pub none-at : r ≡ found.None → find serial (docsIn run) ≡ none
 
--- the record at a place of a document; past these one that says nothing
-pub record IsRecordAt (t : Table) (i : ℕ) (r : Document) : Type 0 where
-  pub is : i < t .count → r ≡ recordAt t i
-  pub past : t .count ≤ i → r ≡ noDocument
-  pub deep : r .depth ≤ documentLimit
+-- a halving: to the middle where the serial there isn't above the one that is sought
+unfoldable pub halved : List ℕ → ℕ → ℕ → ℕ → ℕ → ℕ
+halved run n s at half = pick (ltb (at + half) n && leb (serialAt run (at + half)) s) (at + half) at
 
-pub record IsBeneath (d : Document) (serial : ℕ) (r : Bool) : Type 0 where
-  pub is : r ≡ elem serial (documentIn d .identity .above)
+-- the halvings so far, among the first n serials: the one at a place other than the first isn't above the one that is sought, and those that aren't stand within `width` places
+pub record Near (run : List ℕ) (n s at width : ℕ) : Type 0 where
+  pub low : 0 < at → (at < n) × (serialAt run at ≤ s)
+  pub high : (k : ℕ) → k < n → serialAt run k ≤ s → k < at + width
 
--- one document more at the end, and the next serial
-pub record IsPushed (t : Table) (d : Document) (r : Table) : Type 0 where
-  pub sound : Sound r
-  pub docs : docsIn r ≡ docsIn t ++ (documentIn d ∷ [])
-  pub next : r .next ≡ suc (t .next)
+-- the slot of the document at a place
+pub record IsSlot (run : List ℕ) (i : ℕ) (r : List ℕ) : Type 0 where
+  pub is : r ≡ slotOf run (slotNumber run i)
+  pub good : GoodSlot r
 
--- one document more where that can be, and else the table as it was
-pub record Pushes (t : Table) (d : Document) (r : Table) : Type 0 where
-  pub pushed : t .count < documentLimit → t .next ≤ lastSerial → d .depth ≤ documentLimit → IsPushed t d r
-  pub full : documentLimit ≤ t .count → r ≡ t
-  pub spent : lastSerial < t .next → r ≡ t
-  pub deep : documentLimit < d .depth → r ≡ t
+-- the documents that stay, how many went, and every byte
+pub record IsRemoved (run : List ℕ) (serial : ℕ) (after : List ℕ) (r : ℕ) : Type 0 where
+  pub is : after ≡ removedRun serial run
+  pub sound : Sound after
+  pub docs : docsIn after ≡ remaining serial (docsIn run)
+  pub last : lastIn after ≡ lastIn run
+  pub count : r ≡ removedCount serial (docsIn run)
+  pub few : r ≤ documentLimit
 
--- the documents that stay, and how many there were
-pub record IsRemoved (t : Table) (serial : ℕ) (r : Table) : Type 0 where
-  pub sound : Sound r
-  pub docs : docsIn r ≡ remaining serial (docsIn t)
-  pub next : r .next ≡ t .next
-  pub count : r .count + removedCount serial (docsIn t) ≡ t .count
+-- a list with no serials yet
+abbrev pub noSerials : List ℕ
+noSerials = replicate documentLimit 0
 
--- the serials beneath a document, and how many they are
-pub record AreSerials (t : Table) (serial : ℕ) (r : Serials) : Type 0 where
+-- the serials beneath a document, 0 in the places after them, and how many they are
+pub record AreSerials (run : List ℕ) (serial : ℕ) (r : Serials) : Type 0 where
   pub count : r .count ≤ documentLimit
-  pub many : length (serialsBeneath serial (docsIn t)) ≡ r .count
-  pub list : take (r .count) (r .list) ≡ serialsBeneath serial (docsIn t)
+  pub many : r .count ≡ length (serialsBeneath serial (docsIn run))
+  pub list : r .list ≡ stored (serialsBeneath serial (docsIn run)) noSerials

@@ -1,167 +1,244 @@
-// The table of loaded documents, by value: find a document, take its record out, put one in, remove one with all beneath it.
+// The table of loaded documents in one lent run of bytes: a directory, and a slot of fixed size for each document. Find a document, take its slot, give a slot away, remove a document with all beneath it.
 ghost use mathlib.Core.Path.{_≡_};
-ghost use Prim.Native.Nat.{min};
-ghost use Rattle.limits.specs.Limits.{documentLimit};
-ghost use Rattle.document_model.specs.Model.{newTable, remaining, serialsBeneath};
-ghost use Rattle.document_records.specs.Records.{documentIn};
-ghost use Rattle.document_table.specs.Tables.{noDocument, view, Sound, IsFound, IsRecordAt, IsBeneath, Pushes, IsRemoved, AreSerials};
-use document_records::Document;
+ghost use Prim.Native.Nat.{_+_, _^_, _≤_, _<_};
+ghost use Rattle.ascii.specs.Bytes.{pick};
+ghost use lib.ListN.{length};
+ghost use Rattle.writing.specs.Writing.{withText};
+ghost use Rattle.limits.specs.Limits.{documentLimit, lastSerial};
+ghost use Rattle.document_model.specs.Model.{valuesFrom, isAtOrBeneath};
+ghost use Rattle.document_records.specs.Slots.{slotBytes};
+ghost use Rattle.document_table.specs.Layout.{directoryPlace, tableBytes, countIn, lastIn, serialAt, slotNumber, slotPlace, docAt, newRun, pushed, hasRoom, moved};
+ghost use Rattle.document_table.specs.Tables.{Sound, Ascends, IsFound, IsSlot, halved, Near, AreSerials, IsRemoved};
 use limits::DOCUMENTS;
-use origins::OriginRange;
 
-// Documents in serial order, `count` of them, and the serial that the next load gives: 64 bits, since past the last serial there is one more.
-pub struct Table {
-    pub docs: [Document; DOCUMENTS],
-    pub count: usize,
-    pub next: u64,
-}
+// Where the parts of the table stand: a mark, which names the version of this layout; how many documents there are; the last serial that was given; the serials, ascending; the number of each one's slot,
+// and past them those of the free slots; the slots.
+const MARK: usize = 0;
+
+const MARK_BYTES: usize = 16;
+
+const COUNT: usize = MARK + MARK_BYTES;
+
+const LAST: usize = COUNT + lent_bytes::NUMBER;
+
+const SERIALS: usize = LAST + lent_bytes::NUMBER;
+
+const DIRECTORY: usize = SERIALS + lent_bytes::NUMBER * DOCUMENTS;
+
+const SLOTS: usize = DIRECTORY + DOCUMENTS;
+
+// Bytes of a table: the length that a lent run must have.
+pub const TABLE_BYTES: usize = SLOTS + document_records::SLOT_BYTES * DOCUMENTS;
 
 pub enum Found {
     At(usize),
     None,
 }
 
-// Serials, the first `count` of `list`.
+// Serials, the first `count` of `list`; after them 0.
 pub struct Serials {
     pub list: [u32; DOCUMENTS],
     pub count: usize,
 }
 
-// A record that says nothing: what stands in a place that no document has.
-pub fn no_document() -> Document
-    ensures { λ r. ⌜ r ≡ noDocument ⌝ }
+// How many documents are loaded.
+pub fn count(run: &[u8]) -> usize
+    requires { ⌜ Sound (now run) ⌝ }
+    ensures { λ r. ⌜ r ≡ countIn (now (run .entry)) ⌝ }
 {
-    Document {
-        serial: 0,
-        above: [0; DOCUMENTS],
-        depth: 0,
-        origin: OriginRange::Fresh,
-        text: [0; document_records::ORIGIN_BYTES],
-        sandboxed: false,
-        inherited: 0,
-        header: [0; document_records::SETTLED_BYTES],
+    lent_bytes::wide(lent_bytes::number(run, COUNT))
+}
+
+// The last serial that was given; 0 where none was.
+pub fn last(run: &[u8]) -> u32
+    requires { ⌜ Sound (now run) ⌝ }
+    ensures { λ r. ⌜ r ≡ lastIn (now (run .entry)) ⌝ }
+{
+    lent_bytes::number(run, LAST)
+}
+
+// A halving, without a branch.
+fn halved(run: &[u8], n: usize, serial: u32, at: usize, half: usize) -> usize
+    requires { ⌜ (tableBytes ≤ length (now run)) × (at + half < documentLimit) ⌝ }
+    ensures { λ r. ⌜ (r ≡ halved (now (run .entry)) n serial at half) × (r ≤ at + half) ⌝ }
+{
+    let mid = at + half;
+    let s = lent_bytes::number(run, SERIALS + lent_bytes::NUMBER * mid);
+    if (mid < n) & (s <= serial) { mid } else { at }
+}
+
+// The one place where a serial can stand: all places are halved until one is left. The compiler unrolls the loop.
+fn nearest(run: &[u8], n: usize, serial: u32) -> usize
+    requires { ⌜ Sound (now run) × Ascends (now run) × (n ≡ countIn (now run)) ⌝ }
+    ensures { λ r. ⌜ Near (now (run .entry)) n serial r 1 × (r < documentLimit) ⌝ }
+{
+    let mut at: usize = 0;
+    let mut width = DOCUMENTS;
+    while 1 < width {
+        let half = width / 2;
+        at = halved(run, n, serial, at, half);
+        width -= half;
+    }
+    at
+}
+
+// The place of the document with a serial.
+pub fn find(run: &[u8], serial: u32) -> Found
+    requires { ⌜ Sound (now run) × Ascends (now run) ⌝ }
+    ensures { λ r. ⌜ IsFound (now (run .entry)) serial r ⌝ }
+{
+    let n = count(run);
+    let i = nearest(run, n, serial);
+    let s = lent_bytes::number(run, SERIALS + lent_bytes::NUMBER * i);
+    if (i < n) & (s == serial) {
+        Found::At(i)
+    } else {
+        Found::None
+    }
+}
+
+fn wide(x: u8) -> usize
+    ensures { λ r. ⌜ r ≡ x ⌝ }
+{
+    x as usize
+}
+
+// Where the slot of a place starts; a place past the documents has a free slot.
+pub fn slot_place(run: &[u8], i: usize) -> usize
+    requires { ⌜ Sound (now run) × (i < documentLimit) ⌝ }
+    ensures { λ r. ⌜ (r ≡ slotPlace (slotNumber (now (run .entry)) i)) × (r + slotBytes ≤ length (now (run .entry))) ⌝ }
+{
+    SLOTS + document_records::SLOT_BYTES * wide(run[DIRECTORY + i])
+}
+
+// The slot of the document at a place.
+pub fn slot(run: &[u8], i: usize) -> &[u8]
+    requires { ⌜ Sound (now run) × (i < countIn (now run)) ⌝ }
+    ensures { λ r. ⌜ IsSlot (now (run .entry)) i (now r) ⌝ }
+{
+    lent_bytes::part(run, slot_place(run, i), document_records::SLOT_BYTES)
+}
+
+// The serial of the document at a place.
+pub fn serial_at(run: &[u8], i: usize) -> u32
+    requires { ⌜ Sound (now run) × (i < documentLimit) ⌝ }
+    ensures { λ r. ⌜ r ≡ serialAt (now (run .entry)) i ⌝ }
+{
+    lent_bytes::number(run, SERIALS + lent_bytes::NUMBER * i)
+}
+
+// Every slot is free, in order.
+fn free_slots(run: &mut [u8])
+    requires { ⌜ tableBytes ≤ length (now run) ⌝ }
+    ensures { λ _. ⌜ now (run .exit) ≡ withText (now (run .entry)) directoryPlace (valuesFrom (λ n. n) 0 documentLimit) ⌝ }
+{
+    let mut i: usize = 0;
+    while i < DOCUMENTS {
+        lent_bytes::put_one(run, DIRECTORY + i, i as u8);
+        i += 1;
     }
 }
 
 // "A new table is empty."
-pub fn new_table() -> Table
-    ensures { λ r. ⌜ Sound r × (view r ≡ newTable) ⌝ }
+pub fn clear(run: &mut [u8])
+    requires { ⌜ tableBytes ≤ length (now run) ⌝ }
+    ensures { λ _. ⌜ now (run .exit) ≡ newRun (now (run .entry)) ⌝ }
 {
-    let d = no_document();
-    Table {
-        docs: [d; DOCUMENTS],
-        count: 0,
-        next: 1,
+    lent_bytes::put_text(run, MARK, b"flourviol-table1");
+    lent_bytes::put_number(run, COUNT, 0);
+    lent_bytes::put_number(run, LAST, 0);
+    free_slots(run);
+}
+
+// The first free slot is given to the document with the next serial.
+fn add_entry(run: &mut [u8])
+    requires { ⌜ (tableBytes ≤ length (now run)) × (countIn (now run) < documentLimit) × (lastIn (now run) < lastSerial) ⌝ }
+    ensures { λ _. ⌜ now (run .exit) ≡ pushed (now (run .entry)) ⌝ }
+{
+    let n = lent_bytes::number(run, COUNT);
+    let next = lent_bytes::number(run, LAST) + 1;
+    lent_bytes::put_number(
+        run,
+        SERIALS + lent_bytes::NUMBER * lent_bytes::wide(n),
+        next,
+    );
+    lent_bytes::put_number(run, LAST, next);
+    lent_bytes::put_number(run, COUNT, n + 1);
+}
+
+// The same, where there is room for one more and a serial; else nothing.
+pub fn push(run: &mut [u8])
+    requires { ⌜ tableBytes ≤ length (now run) ⌝ }
+    ensures { λ _. ⌜ now (run .exit) ≡ pick (hasRoom (now (run .entry))) (pushed (now (run .entry))) (now (run .entry)) ⌝ }
+{
+    let n = lent_bytes::wide(lent_bytes::number(run, COUNT));
+    let last = lent_bytes::number(run, LAST);
+    if (n < DOCUMENTS) & (last < limits::LAST_SERIAL) {
+        add_entry(run);
     }
 }
 
-// The place of the document with a serial.
-pub fn find(t: Table, serial: u32) -> Found
-    requires { ⌜ Sound t ⌝ }
-    ensures { λ r. ⌜ IsFound t serial r ⌝ }
+// The entry at a place changes places with an earlier one; of the serials the later one stands at both.
+fn move_entry(run: &mut [u8], to: usize, from: usize)
+    requires { ⌜ (tableBytes ≤ length (now run)) × (to ≤ from) × (from < documentLimit) ⌝ }
+    ensures { λ _. ⌜ (now (run .exit) ≡ moved (now (run .entry)) to from) × (serialAt (now (run .entry)) from < 2 ^ 32) ⌝ }
 {
-    let n = t.count;
-    let mut i: usize = 0;
-    while i < n {
-        if t.docs[i].serial == serial {
-            return Found::At(i);
-        }
-        i += 1;
-    }
-    Found::None
+    let s = lent_bytes::number(run, SERIALS + lent_bytes::NUMBER * from);
+    let a = run[DIRECTORY + from];
+    let b = run[DIRECTORY + to];
+    lent_bytes::put_number(run, SERIALS + lent_bytes::NUMBER * to, s);
+    lent_bytes::put_one(run, DIRECTORY + to, a);
+    lent_bytes::put_one(run, DIRECTORY + from, b);
 }
 
-// The record at a place; past the documents one that says nothing.
-pub fn document_at(t: Table, i: usize) -> Document
-    requires { ⌜ Sound t ⌝ }
-    ensures { λ r. ⌜ IsRecordAt t i r ⌝ }
+fn small(x: usize) -> u32
+    requires { ⌜ x ≤ documentLimit ⌝ }
+    ensures { λ r. ⌜ r ≡ x ⌝ }
 {
-    if t.count <= i {
-        return no_document();
-    }
-    t.docs[i]
+    x as u32
 }
 
-// As many serials as stand above a document, and no more than there are places.
-fn places(depth: usize) -> usize
-    ensures { λ r. ⌜ r ≡ min depth documentLimit ⌝ }
+// Whether the document at a place has a serial or is beneath it.
+fn goes(run: &[u8], i: usize, serial: u32) -> bool
+    requires { ⌜ Sound (now run) × (i < countIn (now run)) ⌝ }
+    ensures { λ r. ⌜ r ≡ isAtOrBeneath serial (docAt (now (run .entry)) i .identity) ⌝ }
 {
-    if DOCUMENTS < depth { DOCUMENTS } else { depth }
+    (serial_at(run, i) == serial) | document_records::is_beneath(slot(run, i), serial)
 }
 
-// Whether a document is beneath a serial.
-pub fn is_beneath(d: Document, serial: u32) -> bool
-    ensures { λ r. ⌜ IsBeneath d serial r ⌝ }
+// A document goes, and all beneath it; how many they are. The entries of the others move up, and no slot changes.
+pub fn remove(run: &mut [u8], serial: u32) -> usize
+    requires { ⌜ Sound (now run) ⌝ }
+    ensures { λ r. ⌜ IsRemoved (now (run .entry)) serial (now (run .exit)) r ⌝ }
 {
-    let n = places(d.depth);
-    let mut i: usize = 0;
-    while i < n {
-        if d.above[i] == serial {
-            return true;
-        }
-        i += 1;
-    }
-    false
-}
-
-// One document more, and the next serial; the table as it was where there is no room or no serial left, or more stand above the document than there are places.
-pub fn push(t: Table, d: Document) -> Table
-    requires { ⌜ Sound t ⌝ }
-    ensures { λ r. ⌜ Pushes t d r ⌝ }
-{
-    if DOCUMENTS <= t.count {
-        return t;
-    }
-    if (limits::LAST_SERIAL as u64) < t.next {
-        return t;
-    }
-    if DOCUMENTS < d.depth {
-        return t;
-    }
-    let mut u = t;
-    let n = u.count;
-    u.docs[n] = d;
-    u.count = n + 1;
-    u.next = u.next + 1;
-    u
-}
-
-// A document goes, and all beneath it; the others move up.
-pub fn remove(t: Table, serial: u32) -> Table
-    requires { ⌜ Sound t ⌝ }
-    ensures { λ r. ⌜ IsRemoved t serial r ⌝ }
-{
-    let n = t.count;
-    let mut u = t;
+    let n = count(run);
     let mut i: usize = 0;
     let mut k: usize = 0;
     while i < n {
-        let d = document_at(t, i);
-        if (d.serial == serial) | is_beneath(d, serial) {
+        if goes(run, i, serial) {
             i += 1;
         } else {
-            u.docs[k] = d;
+            move_entry(run, k, i);
             k += 1;
             i += 1;
         }
     }
-    u.count = k;
-    u
+    lent_bytes::put_number(run, COUNT, small(k));
+    n - k
 }
 
 // The serials beneath a serial, ascending.
-pub fn serials_beneath(t: Table, serial: u32) -> Serials
-    requires { ⌜ Sound t ⌝ }
-    ensures { λ r. ⌜ AreSerials t serial r ⌝ }
+pub fn serials_beneath(run: &[u8], serial: u32) -> Serials
+    requires { ⌜ Sound (now run) ⌝ }
+    ensures { λ r. ⌜ AreSerials (now (run .entry)) serial r ⌝ }
 {
-    let n = t.count;
+    let n = count(run);
     let mut list = [0u32; DOCUMENTS];
     let mut i: usize = 0;
     let mut k: usize = 0;
     while i < n {
-        let d = document_at(t, i);
-        if is_beneath(d, serial) {
-            list[k] = d.serial;
+        if document_records::is_beneath(slot(run, i), serial) {
+            list[k] = serial_at(run, i);
             k += 1;
             i += 1;
         } else {

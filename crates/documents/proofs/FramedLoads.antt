@@ -1,6 +1,6 @@
 -- What each return of a framed load answers, in the terms of the code. Assumes nothing.
 use mathlib.Core.Path.{_≡_, refl, ap, sym, _∙_, subst}
-use Prim.Native.Nat.{ℕ, _≤_, _<_}
+use Prim.Native.Nat.{ℕ, suc, _≤_, _<_}
 use native.Mathlib.Omega.{arith}
 use mathlib.Core.List.{List}
 use mathlib.Core.Bool.{Bool, true, false, not, _&&_, _||_}
@@ -19,20 +19,19 @@ use Rattle.origins.specs.declared.OriginText.{OriginText}
 use Rattle.declarations.specs.Declarations.{isMalformed}
 use Rattle.containers.specs.Attributes.{Attributes}
 use Rattle.containers.specs.Answers.{IsSandboxed}
-use Rattle.document_records.specs.Records.{documentIn}
-use Rattle.document_records.specs.declared.Document.{Document}
-use Rattle.document_records.proofs.Parts.{document-sandboxed}
-use Rattle.document_model.specs.Model.{Text, Table as ModelTable, framedLoad, refuse, isNull, isShort, find, frameSandboxed, load as loadOf, outcome, framedDocument, framedIdentity}
-use Rattle.document_model.proofs.Parts.{frame-sandboxed, found-fewer}
+use Rattle.document_records.specs.Slots.{isSandboxedIn, depthIn, documentIn, slotPolicy}
+use Rattle.document_records.proofs.Laws.{document-sandboxed, document-depth, document-policy}
+use Rattle.document_model.specs.Model.{Text, Table as ModelTable, Document, policyOf, framedLoad, refuse, isNull, isShort, find, frameSandboxed, load as loadOf, outcome, framedDocument, framedIdentity}
+use Rattle.document_model.proofs.Parts.{frame-sandboxed, found-fewer, framed-identity, framed-document}
 use Rattle.document_model.proofs.RowByRow.{framed-long, framed-bad, framed-src, framed-closed, framed-sandbox, framed-load}
-use Rattle.document_table.specs.declared.Table.{Table}
 use Rattle.document_table.specs.declared.Found.{Found}
 use Rattle.document_table.specs.declared.Found.the-variants as found
-use Rattle.document_table.specs.Tables.{recordAt, docsIn, view, IsFound, IsRecordAt, Pushes}
+use Rattle.document_table.specs.Layout.{countIn, lastIn, serialAt, slotNumber, slotOf, docAt, docsIn, view}
+use Rattle.document_table.specs.Tables.{IsFound, IsSlot}
 use Rattle.document_table.proofs.Laws.{docs-length}
 use Rattle.document_loads.specs.declared.FrameMarks.{FrameMarks}
 use Rattle.document_loads.specs.declared.NewDocument.{NewDocument}
-use Rattle.document_loads.specs.Loads.{attributes, IsFramedDocument}
+use Rattle.document_loads.specs.Loads.{attributes, framedIn, inheritsIn, IsFramedDocument}
 use Rattle.documents.specs.declared.Room.{Room}
 use Rattle.documents.specs.declared.Room.the-variants as room
 use Rattle.documents.specs.declared.Texts.{Texts}
@@ -41,10 +40,11 @@ use Rattle.documents.specs.declared.FramePlace.{FramePlace}
 use Rattle.documents.specs.declared.FrameRoom.{FrameRoom}
 use Rattle.documents.specs.declared.FrameRoom.the-variants as frame
 use Rattle.documents.specs.declared.LoadAnswer.the-variants as loading
-use Rattle.documents.specs.declared.Loading.{Loading}
+use Rattle.documents.specs.declared.LoadAnswer.{LoadAnswer}
+use Rattle.documents.specs.declared.LoadedDocument.{LoadedDocument}
 use Rattle.documents.specs.Answers.{Valid, Loads}
-use Rattle.documents.specs.Steps.{isBad, isBarred, IsRoom, GoodTexts, AreTexts, HasPlace, IsFramePlace, IsFrameRoom, IsAdmitted, LoadsAt}
-use Rattle.documents.proofs.Answering.{good-is, found-record}
+use Rattle.documents.specs.Steps.{isBad, isBarred, IsRoom, GoodTexts, AreTexts, HasRoom, Places, HasPlace, IsFramePlace, IsFrameRoom, IsAdmitted, LoadsAt}
+use Rattle.documents.proofs.Answering.{good-is, slot-document}
 use Rattle.documents.proofs.Loads.{refused-load, accepted-load}
 
 -- ---- refusal 5
@@ -100,14 +100,14 @@ module _ (h allow sandbox : List ℕ) (x y : OriginText) where
 
 -- ---- where a framed load goes
 
--- a found document has room for one more above
-found-shallow : (t : Table) (s : ℕ) (c : Document) → Valid t → find s (docsIn t) ≡ some (documentIn c) → length (documentIn c .identity .above) < documentLimit
-found-shallow t s c valid there =
-    let few : length (documentIn c .identity .above) < length (view t .docs) =
-    subst (λ (m : ModelTable). find s (m .docs) ≡ some (documentIn c) → length (documentIn c .identity .above) < length (m .docs)) (sym (valid .left)) (found-fewer (valid .calls) s (documentIn c)) there in
-    omega (arith, few, docs-length t, valid .sound .count)
+-- in a frame of a found document there is room for one more above
+found-shallow : (t : List ℕ) (s : ℕ) (d : Document) → Valid t → countIn t < documentLimit → find s (docsIn t) ≡ some d → suc (length (d .identity .above)) < documentLimit
+found-shallow t s d valid room there =
+    let few : length (d .identity .above) < length (view t .docs) =
+    subst (λ (m : ModelTable). find s (m .docs) ≡ some d → length (d .identity .above) < length (m .docs)) (sym (valid .left)) (found-fewer (valid .calls) s d) there in
+    omega (arith, few, docs-length t)
 
-module _ (t : Table) (s : ℕ) (x : OriginText) (has : Bool) (sandbox : List ℕ) where
+module _ (t : List ℕ) (s : ℕ) (x : OriginText) (has : Bool) (sandbox : List ℕ) where
   refuses-frame : (n : Refusal) → ((h o : Text) (a : Attributes) → a .hasSandbox ≡ has → a .sandbox ≡ sandbox → x ≡ originAs (originOf o) → GoodTexts h o a → outcome (framedLoad s h o a) (view t) ≡ refuse n) → IsFrameRoom t s x has sandbox (frame.Refused n)
   refuses-frame n f = record { refuses = λ m e h o a p q read good. (let w : n ≡ m = cc in f h o a p q read good ∙ ap refuse w); places = λ p e h o a u v read good. clash cc }
 
@@ -115,9 +115,12 @@ module _ (t : Table) (s : ℕ) (x : OriginText) (has : Bool) (sandbox : List ℕ
     pub frame-closed : f ≡ found.None → IsFrameRoom t s x has sandbox (frame.Refused NotLoaded)
     frame-closed k = refuses-frame NotLoaded (λ h o a p q read good. framed-closed s h o a (view t) (good .short) (good .origin) (good .src) (is .none-at k))
 
-    module _ (i : ℕ) (c : Document) (k : f ≡ found.At i) (at : IsRecordAt t i c) (boxed out : Bool) (box : IsSandboxed (c .sandboxed) has sandbox boxed) (tested : out ≡ isBarred boxed x) where
-      in-box : (a : Attributes) → a .hasSandbox ≡ has → a .sandbox ≡ sandbox → boxed ≡ frameSandboxed (documentIn c .identity) a
-      in-box a p q = box .says a p q ∙ sym (frame-sandboxed (documentIn c .identity) a ∙ rw (document-sandboxed c) refl)
+    module _ (i : ℕ) (c : List ℕ) (k : f ≡ found.At i) (at : IsSlot t i c) (above boxed out : Bool) (mark : above ≡ isSandboxedIn c) (box : IsSandboxed above has sandbox boxed) (tested : out ≡ isBarred boxed x) where
+      sandboxed-is : docAt t i .identity .sandboxed ≡ above
+      sandboxed-is = ap (λ (d : Document). d .identity .sandboxed) (slot-document t c i at) ∙ (document-sandboxed (serialAt t i) c ∙ sym mark)
+
+      in-box : (a : Attributes) → a .hasSandbox ≡ has → a .sandbox ≡ sandbox → boxed ≡ frameSandboxed (docAt t i .identity) a
+      in-box a p q = box .says a p q ∙ sym (frame-sandboxed (docAt t i .identity) a ∙ rw sandboxed-is refl)
 
       barred-is : (o : Text) (b : Bool) → x ≡ originAs (originOf o) → out ≡ b → isBarred boxed (originAs (originOf o)) ≡ b
       barred-is o b read q = ap (isBarred boxed) (sym read) ∙ (sym tested ∙ q)
@@ -126,24 +129,24 @@ module _ (t : Table) (s : ℕ) (x : OriginText) (has : Bool) (sandbox : List ℕ
       frame-barred w =
           refuses-frame Sandbox
           (λ h o a p q read good.
-          framed-sandbox s h o a (view t) (good .short) (good .origin) (good .src) (documentIn c) (found-record t s f i c is k at) (sym (in-box a p q) ∙ barred (originOf o) boxed (barred-is o true read w)) (not-null (originOf o) boxed (barred-is o true read w)))
+          framed-sandbox s h o a (view t) (good .short) (good .origin) (good .src) (docAt t i) (is .some-at i k .1) (sym (in-box a p q) ∙ barred (originOf o) boxed (barred-is o true read w)) (not-null (originOf o) boxed (barred-is o true read w)))
 
       module _ (free : out ≡ false) (rm : Room) (r : IsRoom t rm) where
         is-load : (h o : Text) (a : Attributes) → a .hasSandbox ≡ has → a .sandbox ≡ sandbox → x ≡ originAs (originOf o) → GoodTexts h o a
-            → outcome (framedLoad s h o a) (view t) ≡ loadOf (view t) (isMalformed h) (framedDocument (documentIn c) h a) (framedIdentity (documentIn c .identity) a (originOf o))
+            → outcome (framedLoad s h o a) (view t) ≡ loadOf (view t) (isMalformed h) (framedDocument (docAt t i) h a) (framedIdentity (docAt t i .identity) a (originOf o))
         is-load h o a p q read good =
-            framed-load s h o a (view t) (good .short) (good .origin) (good .src) (documentIn c) (found-record t s f i c is k at) (ap (λ (z : Bool). not z || isNull (originOf o)) (sym (in-box a p q)) ∙ let-in (originOf o) boxed (barred-is o false read free))
+            framed-load s h o a (view t) (good .short) (good .origin) (good .src) (docAt t i) (is .some-at i k .1) (ap (λ (z : Bool). not z || isNull (originOf o)) (sym (in-box a p q)) ∙ let-in (originOf o) boxed (barred-is o false read free))
 
         pub frame-refused : (n : Refusal) → rm ≡ room.Refused n → IsFrameRoom t s x has sandbox (frame.Refused n)
-        frame-refused n e = refuses-frame n (λ h o a p q read good. is-load h o a p q read good ∙ r .none n e (isMalformed h) (framedDocument (documentIn c) h a) (framedIdentity (documentIn c .identity) a (originOf o)))
+        frame-refused n e = refuses-frame n (λ h o a p q read good. is-load h o a p q read good ∙ r .none n e (isMalformed h) (framedDocument (docAt t i) h a) (framedIdentity (docAt t i .identity) a (originOf o)))
 
         placed : (n : ℕ) → rm ≡ room.Serial n → (h o : Text) (a : Attributes) → a .hasSandbox ≡ has → a .sandbox ≡ sandbox → x ≡ originAs (originOf o) → GoodTexts h o a → IsFramePlace t s h o a (record { container = i; serial = n })
         placed n e h o a p q read good =
             record {
-              has = record { sound = valid .sound; place = is .some-at i k .0; room = r .serial n e .1; left = r .serial n e .2 };
-              above = subst (λ (d : Document). length (documentIn d .identity .above) < documentLimit) (at .is (is .some-at i k .0)) (found-shallow t s c valid (found-record t s f i c is k at));
+              has = record { has = record { sound = valid .sound; room = r .serial n e .1; left = r .serial n e .2 }; place = is .some-at i k .0; above = found-shallow t s (docAt t i) valid (r .serial n e .1) (is .some-at i k .1) };
+              container = is .some-at i k .2;
               serial = r .serial n e .0;
-              loads = subst (λ (d : Document). outcome (framedLoad s h o a) (view t) ≡ loadOf (view t) (isMalformed h) (framedDocument (documentIn d) h a) (framedIdentity (documentIn d .identity) a (originOf o))) (at .is (is .some-at i k .0)) (is-load h o a p q read good);
+              loads = is-load h o a p q read good;
             }
 
         pub frame-placed : (n : ℕ) → rm ≡ room.Serial n → IsFrameRoom t s x has sandbox (frame.At (record { container = i; serial = n }))
@@ -164,7 +167,7 @@ short-header h b c e = leb-true (length h) textBytes (first (isShort h) b c e)
     first true y z e = refl
     first false y z e = e
 
-module _ (t : Table) (s : ℕ) (x y : OriginText) (marks : FrameMarks) (allow sandbox h : List ℕ) (are : Texts) (good : AreTexts h allow sandbox x y are) where
+module _ (t : List ℕ) (s : ℕ) (x y : OriginText) (marks : FrameMarks) (allow sandbox h : List ℕ) (are : Texts) (good : AreTexts h allow sandbox x y are) where
   pub admitted-texts : (n : Refusal) → are ≡ texts.Refused n → IsAdmitted t s x y marks allow sandbox h (frame.Refused n)
   admitted-texts n e =
       record {
@@ -183,26 +186,36 @@ module _ (t : Table) (s : ℕ) (x y : OriginText) (marks : FrameMarks) (allow sa
 
 -- ---- the load
 
-pub loads-at : (t : Table) (p : FramePlace) (h o allow : Text) (marks : FrameMarks) (sandbox src : Text) (c : Document) (new : NewDocument) (u : Table)
-    → IsRecordAt t (p .container) c → IsFramedDocument c o h (attributes allow marks sandbox src) (p .serial) new → Pushes t (new .document) u
-    → LoadsAt t p h o (attributes allow marks sandbox src) (record { answer = loading.Loaded (record { serial = p .serial; malformed = new .malformed }); table = u })
-loads-at t p h o allow marks sandbox src c new u at made pushes =
+pub loads-at : (t : List ℕ) (p : FramePlace) (s : ℕ) (h o allow : Text) (marks : FrameMarks) (sandbox src c : List ℕ) (d : NewDocument) (u : List ℕ) (l : LoadedDocument)
+    → IsSlot t (p .container) c → IsFramedDocument c s o (attributes allow marks sandbox src) (p .serial) d → Places t d h u l × (l .serial ≡ p .serial)
+    → LoadsAt t p s h o (attributes allow marks sandbox src) u (loading.Loaded l)
+loads-at t p s h o allow marks sandbox src c d u l at new put =
     let a = attributes allow marks sandbox src in
     record {
-      says = λ s valid le here.
-          let above : length (documentIn c .identity .above) < documentLimit = subst (λ (d : Document). length (documentIn d .identity .above) < documentLimit) (sym (at .is (here .has .place))) (here .above) in
-          let loads = subst (λ (d : Document). outcome (framedLoad s h o a) (view t) ≡ loadOf (view t) (isMalformed h) (framedDocument (documentIn d) h a) (framedIdentity (documentIn d .identity) a (originOf o))) (sym (at .is (here .has .place))) (here .loads) in
-          accepted-load (framedLoad s h o a) t u (new .document) (isMalformed h) (new .malformed) (p .serial) (framedDocument (documentIn c) h a) (framedIdentity (documentIn c .identity) a (originOf o)) valid loads (here .has .room) (here .has .left) (here .serial) (made .malformed le) (made .says le (at .deep) above) (pushes .pushed (here .has .room) (here .has .left) (made .depth));
+      says = λ valid here.
+          let n = suc (lastIn t) in
+          let doc : docAt t (p .container) ≡ documentIn s c = slot-document t c (p .container) at ∙ ap (λ (j : ℕ). documentIn j c) (here .container) in
+          let i = framedIn c s o a (p .serial) in
+          let b = inheritsIn c s o a (p .serial) in
+          let own : framedIn c s o (attributes allow marks sandbox src) (p .serial) .serial ≡ suc (lastIn t) = rw (framed-identity (documentIn s c .identity) a (originOf o) (p .serial)) (here .serial) in
+          let few : length (framedIn c s o (attributes allow marks sandbox src) (p .serial) .above) < documentLimit =
+          rw (framed-identity (documentIn s c .identity) a (originOf o) (p .serial), ← doc) (here .has .above) in
+          let loads : outcome (framedLoad s h o (attributes allow marks sandbox src)) (view t) ≡ loadOf (view t) (isMalformed h) (framedDocument (documentIn s c) h (attributes allow marks sandbox src)) (framedIdentity (documentIn s c .identity) (attributes allow marks sandbox src) (originOf o)) =
+          subst (λ (y : Document). outcome (framedLoad s h o (attributes allow marks sandbox src)) (view t) ≡ loadOf (view t) (isMalformed h) (framedDocument y h (attributes allow marks sandbox src)) (framedIdentity (y .identity) (attributes allow marks sandbox src) (originOf o))) doc (here .loads) in
+          accepted-load (framedLoad s h o a) t u h (isMalformed h) (l .malformed) (l .serial) (framedDocument (documentIn s c) h a) (framedIdentity (documentIn s c .identity) a (originOf o)) i b valid loads (here .has .has .room) (here .has .has .left) (put .1 ∙ here .serial) (put .0 .malformed)
+          (sym (framed-document (documentIn s c) h a (framedIn c s o (attributes allow marks sandbox src) (p .serial)) ∙ rw (document-policy s c) refl) ∙ ap (λ (j : ℕ). framedDocument (documentIn s c) h (attributes allow marks sandbox src) (framedIdentity (documentIn s c .identity) (attributes allow marks sandbox src) (originOf o) j)) (here .serial))
+          (put .0 .says i b new own few) (λ y. refl);
     }
 
-module _ (t : Table) (s : ℕ) (h o allow : Text) (marks : FrameMarks) (sandbox src : Text) (x y : OriginText) (read : x ≡ originAs (originOf o)) (read-src : y ≡ originAs (originOf src)) (r : FrameRoom) (is : IsAdmitted t s x y marks allow sandbox h r) where
-  pub framed-refused : (n : Refusal) → Valid t → r ≡ frame.Refused n → Loads (framedLoad s h o (attributes allow marks sandbox src)) t (record { answer = loading.Refused n; table = t })
+module _ (t : List ℕ) (s : ℕ) (h o allow : Text) (marks : FrameMarks) (sandbox src : Text) (x y : OriginText) (read : x ≡ originAs (originOf o)) (read-src : y ≡ originAs (originOf src)) (r : FrameRoom) (is : IsAdmitted t s x y marks allow sandbox h r) where
+  pub framed-refused : (n : Refusal) → Valid t → r ≡ frame.Refused n → Loads (framedLoad s h o (attributes allow marks sandbox src)) t t (loading.Refused n)
   framed-refused n valid e = refused-load (framedLoad s h o (attributes allow marks sandbox src)) t n valid (is .refuses n e o src read read-src)
 
   pub framed-place : (p : FramePlace) → r ≡ frame.At p → HasPlace t p
   framed-place p e = is .places p e o src read read-src .0 .has
 
-  pub framed-accepted : (p : FramePlace) (l : Loading) → Valid t → r ≡ frame.At p → LoadsAt t p h o (attributes allow marks sandbox src) l → Loads (framedLoad s h o (attributes allow marks sandbox src)) t l
-  framed-accepted p l valid e at =
-      let here = is .places p e o src read read-src in
-      at .says s valid (here .1) (here .0)
+  pub framed-short : (p : FramePlace) → r ≡ frame.At p → length h ≤ textBytes
+  framed-short p e = is .places p e o src read read-src .1
+
+  pub framed-accepted : (p : FramePlace) (u : List ℕ) (l : LoadAnswer) → Valid t → r ≡ frame.At p → LoadsAt t p s h o (attributes allow marks sandbox src) u l → Loads (framedLoad s h o (attributes allow marks sandbox src)) t u l
+  framed-accepted p u l valid e at = at .says valid (is .places p e o src read read-src .0)

@@ -1,6 +1,6 @@
+pub mod Asking
 pub mod Answering
-pub mod Claims
 pub mod Forecasts
-pub mod FramedLoads
+pub mod Placing
 pub mod Loads
-pub mod Runs
+pub mod FramedLoads

@@ -1,13 +1,20 @@
--- What the calls promise: their answers in document 01's values and refusals, and the table that they leave.
+-- What the calls promise: their answers in document 01's values and refusals, the table that they leave, and every byte of the lent run.
 use Prim.Native.Nat.{ℕ}
 use mathlib.Core.Path.{_≡_}
 use mathlib.Core.List.{List}
+use lib.Dec.{ltb}
+use lib.ListN.{length}
+use Rattle.ascii.specs.Bytes.{pick}
 use Rattle.limits.specs.Refusals.{refusalNumber}
 use Rattle.limits.specs.declared.Refusal.{Refusal}
+use Rattle.limits.specs.declared.Refusal.the-variants.{Small}
 use Rattle.decisions.specs.Decisions.Decision.{disabled, enabled}
 use Rattle.document_model.specs.Model.{Call, Answer, refused, loaded, removed, decision, features, serials, newTable, answerTo, tableLeft, tableAfter}
-use Rattle.document_table.specs.declared.Table.{Table}
-use Rattle.document_table.specs.Tables.{view, Sound}
+use Rattle.document_table.specs.Layout.{tableBytes, view, newRun}
+use Rattle.document_table.specs.Tables.{Sound}
+use Rattle.documents.specs.Bytes.{bytesLeft}
+use Rattle.documents.specs.declared.NewAnswer.{NewAnswer}
+use Rattle.documents.specs.declared.NewAnswer.the-variants as made
 use Rattle.documents.specs.declared.QuestionAnswer.{QuestionAnswer}
 use Rattle.documents.specs.declared.QuestionAnswer.the-variants as question
 use Rattle.documents.specs.declared.FeaturesAnswer.{FeaturesAnswer}
@@ -18,14 +25,12 @@ use Rattle.documents.specs.declared.UnloadAnswer.{UnloadAnswer}
 use Rattle.documents.specs.declared.UnloadAnswer.the-variants as unload
 use Rattle.documents.specs.declared.ListingAnswer.{ListingAnswer}
 use Rattle.documents.specs.declared.ListingAnswer.the-variants as listing
-use Rattle.documents.specs.declared.Loading.{Loading}
-use Rattle.documents.specs.declared.Unloading.{Unloading}
 
--- "The shell hands each call the table as the last call left it, unaltered": a table that calls on a new one left
-pub record Valid (t : Table) : Type 0 where
-  pub sound : Sound t
+-- "The shell hands each call the table as the last call left it, unaltered, in lent memory too": the bytes of a table that calls on a new one left
+pub record Valid (run : List ℕ) : Type 0 where
+  pub sound : Sound run
   pub calls : List Call
-  pub left : view t ≡ tableAfter calls
+  pub left : view run ≡ tableAfter calls
 
 -- the answers in the model's terms: document 01's values, and its numbers of the refusals
 abbrev pub questionIn : QuestionAnswer → Answer
@@ -50,32 +55,50 @@ abbrev pub listingIn : ListingAnswer → List ℕ → Answer
 listingIn (listing.Count n) run = serials n run
 listingIn (listing.Refused n) run = refused (refusalNumber n)
 
--- "A new table is empty"
-abbrev pub IsNew : Table → Type 0
-IsNew t = Valid t × (view t ≡ newTable)
+-- 02, R-4: "a new table in too short a run (4 MiB never is) is refused with 9"; else it is empty, and every byte is that of the definition
+abbrev pub newIn : List ℕ → NewAnswer
+newIn run = pick (ltb (length run) tableBytes) (made.Refused Small) made.Ready
+
+abbrev pub bytesOfNew : List ℕ → List ℕ
+bytesOfNew run = pick (ltb (length run) tableBytes) run (newRun run)
+
+pub record IsNew (before after : List ℕ) (r : NewAnswer) : Type 0 where
+  pub answer : r ≡ newIn before
+  pub bytes : after ≡ bytesOfNew before
+  pub valid : r ≡ made.Ready → Valid after
+  pub table : r ≡ made.Ready → view after ≡ newTable
 
 -- a question: the answer is the model's, and the table stays
-abbrev pub Decides : Call → Table → QuestionAnswer → Type 0
-Decides c t r = questionIn r ≡ answerTo c (view t)
+abbrev pub Decides : Call → List ℕ → QuestionAnswer → Type 0
+Decides c run r = questionIn r ≡ answerTo c (view run)
 
 -- the number of enabled features, or of a forecast
-abbrev pub TellsFeatures : Call → Table → FeaturesAnswer → Type 0
-TellsFeatures c t r = featuresIn r ≡ answerTo c (view t)
+abbrev pub TellsFeatures : Call → List ℕ → FeaturesAnswer → Type 0
+TellsFeatures c run r = featuresIn r ≡ answerTo c (view run)
 
--- a load: the answer and the table are the model's; "A refusal ... changes nothing": the very table that came in
-pub record Loads (c : Call) (t : Table) (r : Loading) : Type 0 where
-  pub valid : Valid (r .table)
-  pub answer : loadIn (r .answer) ≡ answerTo c (view t)
-  pub table : view (r .table) ≡ tableLeft c (view t)
-  pub refusal : (n : Refusal) → r .answer ≡ load.Refused n → r .table ≡ t
+-- a load: the answer and the table are the model's, and every byte is that of the definition; "A refusal ... changes nothing" is a case of it
+pub record Loads (c : Call) (before after : List ℕ) (r : LoadAnswer) : Type 0 where
+  pub valid : Valid after
+  pub answer : loadIn r ≡ answerTo c (view before)
+  pub table : view after ≡ tableLeft c (view before)
+  pub bytes : after ≡ bytesLeft c before
 
-pub record Unloads (c : Call) (t : Table) (r : Unloading) : Type 0 where
-  pub valid : Valid (r .table)
-  pub answer : unloadIn (r .answer) ≡ answerTo c (view t)
-  pub table : view (r .table) ≡ tableLeft c (view t)
-  pub refusal : (n : Refusal) → r .answer ≡ unload.Refused n → r .table ≡ t
+pub record Unloads (c : Call) (before after : List ℕ) (r : UnloadAnswer) : Type 0 where
+  pub valid : Valid after
+  pub answer : unloadIn r ≡ answerTo c (view before)
+  pub table : view after ≡ tableLeft c (view before)
+  pub bytes : after ≡ bytesLeft c before
 
--- a listing: the answer with the lent run afterwards; a refusal leaves the run as it was
-pub record Lists (c : Call) (t : Table) (before after : List ℕ) (r : ListingAnswer) : Type 0 where
-  pub answer : listingIn r after ≡ answerTo c (view t)
+-- how many an unload and a listing answer; none where they are refused
+abbrev pub removedBy : UnloadAnswer → ℕ
+removedBy (unload.Removed n) = n
+removedBy (unload.Refused n) = 0
+
+abbrev pub listedBy : ListingAnswer → ℕ
+listedBy (listing.Count n) = n
+listedBy (listing.Refused n) = 0
+
+-- a listing: the answer with the lent run of numbers afterwards; a refusal leaves that as it was
+pub record Lists (c : Call) (run before after : List ℕ) (r : ListingAnswer) : Type 0 where
+  pub answer : listingIn r after ≡ answerTo c (view run)
   pub refusal : (n : Refusal) → r ≡ listing.Refused n → after ≡ before

@@ -1,3 +1,3 @@
+pub mod Bytes
 pub mod Answers
 pub mod Steps
-pub mod Runs

@@ -1,22 +1,33 @@
 // The calls on the table of loaded documents.
 ghost use mathlib.Core.Path.{_≡_};
-ghost use Rattle.document_model.specs.Model.{unload, question, enabledFeatures, listing, forecastOf, topLoad, framedLoad, stored};
-ghost use Prim.Native.Nat.{_≤_};
+ghost use Prim.Native.Nat.{_≤_, _<_};
 ghost use lib.ListN.{length, take};
-ghost use Rattle.limits.specs.Limits.{documentLimit};
+ghost use Rattle.limits.specs.Limits.{textBytes, documentLimit};
+ghost use Rattle.features.specs.Features.{featureCount};
+ghost use Rattle.origins.specs.Origins.{originOf};
+ghost use Rattle.origins.specs.Origins.Origin.{tuple};
+ghost use Rattle.origins.specs.Answers.{originAs, tupleIn};
+ghost use Rattle.allowlists.specs.Answers.{admissionIn};
+ghost use Rattle.decisions.specs.Decisions.{decided, byList};
+ghost use Rattle.decisions.specs.Decisions.Decision.{disabled};
+ghost use Rattle.decisions.specs.Policies.{questionIn as questionPolicy};
+ghost use Rattle.document_model.specs.Model.{unload, question, enabledFeatures, listing, forecastOf, topLoad, framedLoad, stored, decision, askedAt};
+ghost use Rattle.document_records.specs.Slots.{ownOrigin, slotPolicy, GoodSlot};
+ghost use Rattle.document_table.specs.Tables.{Sound};
+ghost use Rattle.document_loads.specs.Slots.{Fits};
 ghost use Rattle.document_loads.specs.Loads.{attributes};
-ghost use Rattle.documents.specs.Answers.{Valid, questionIn, IsNew, Decides, TellsFeatures, Loads, Unloads, Lists};
-ghost use Rattle.documents.specs.Steps.{decisionAnswer, isBad, Asks, isBadAtTop, IsRoom, isBarred, AreTexts, IsFrameRoom, IsAdmitted, HasPlace, LoadsAt};
-use decisions::Decision;
+ghost use Rattle.documents.specs.Answers.{Valid, questionIn, IsNew, Decides, TellsFeatures, Loads, Unloads, removedBy, Lists, listedBy};
+ghost use Rattle.documents.specs.Steps.{bitAt, AskedTuple, isBad, isBadAtTop, HasRoom, IsRoom, Places, isBarred, AreTexts, IsFrameRoom, IsAdmitted, HasPlace, LoadsAt};
+use allowlists::Admission;
 use document_loads::FrameMarks;
-use document_records::Document;
+use document_loads::NewDocument;
 use document_table::Found;
-use document_table::Table;
 use limits::DOCUMENTS;
 use limits::Refusal;
 use limits::TEXT_BYTES;
 use origins::OriginRange;
 use origins::OriginText;
+use origins::TupleRange;
 
 // Enabled, Disabled and a refusal are three different answers.
 pub enum QuestionAnswer {
@@ -71,43 +82,91 @@ enum FrameRoom {
     Refused(Refusal),
 }
 
-// A call that changes the table: its answer, and the table afterwards.
-pub struct Loading {
-    pub answer: LoadAnswer,
-    pub table: Table,
+// Whether a new table was made.
+pub enum NewAnswer {
+    Ready,
+    Refused(Refusal),
 }
 
-pub struct Unloading {
-    pub answer: UnloadAnswer,
-    pub table: Table,
-}
-
-// A new table is empty.
-pub fn new_table() -> Table
-    ensures { λ r. ⌜ IsNew r ⌝ }
+// A new table is empty. It lives in the lent run; one that is too short is refused.
+pub fn new_table(run: &mut [u8]) -> NewAnswer
+    ensures { λ r. ⌜ IsNew (now (run .entry)) (now (run .exit)) r ⌝ }
 {
-    document_table::new_table()
+    if run.len() < document_table::TABLE_BYTES {
+        return NewAnswer::Refused(Refusal::Small);
+    }
+    document_table::clear(run);
+    NewAnswer::Ready
 }
 
-// The answer of a decision.
-fn decided(d: Decision) -> QuestionAnswer
-    ensures { λ r. ⌜ questionIn r ≡ decisionAnswer d ⌝ }
+// Bit n of a number.
+fn bit(mask: u32, n: u32) -> bool
+    requires { ⌜ n < featureCount ⌝ }
+    ensures { λ r. ⌜ r ≡ bitAt mask n ⌝ }
 {
-    match d {
-        Decision::Enabled => QuestionAnswer::Enabled,
-        Decision::Disabled => QuestionAnswer::Disabled,
+    (mask >> n) % 2 == 1
+}
+
+// What an inherited Enabled becomes by a list's answer for another origin; without a list it stays Disabled here.
+fn admitted(a: Admission) -> bool
+    ensures { λ r. ⌜ decided r ≡ byList (admissionIn a) disabled ⌝ }
+{
+    match a {
+        Admission::NoList => false,
+        Admission::Admitted => true,
+        Admission::NotAdmitted => false,
     }
 }
 
-// The question of a feature to a document, by what the origin text says.
-fn asked(d: Document, feature: u32, text: &[u8], said: OriginText) -> Decision
-    ensures { λ r. ⌜ Asks d feature (now (text .entry)) said r ⌝ }
+// The question for a tuple origin, where the feature isn't Enabled at every origin.
+fn tuple_decided(slot: &[u8], feature: u32, text: &[u8], o: TupleRange) -> bool
+    requires { ⌜ AskedTuple (now slot) feature (now text) o ⌝ }
+    ensures { λ r. ⌜ decided r ≡ questionPolicy (slotPolicy (now (slot .entry))) feature (tuple (tupleIn (now (text .entry)) o)) ⌝ }
 {
+    if ascii::same(document_records::own_text(slot), text) {
+        return bit(lent_bytes::number(slot, document_records::ENABLED), feature);
+    }
+    if !bit(
+        lent_bytes::number(slot, document_records::INHERITED),
+        feature,
+    ) {
+        return false;
+    }
+    let kept = lent_bytes::part(
+        slot,
+        document_records::SETTLED,
+        document_records::SETTLED_BYTES,
+    );
+    admitted(settled::admits(kept, feature, false, text, OriginRange::Tuple(o)))
+}
+
+// *Question* of a feature in the document for the origin that a text says: by the numbers that a load kept, and for another tuple origin by the list.
+fn is_enabled(slot: &[u8], feature: u32, text: &[u8], said: OriginText) -> bool
+    requires { ⌜ GoodSlot (now slot) × (feature < featureCount) × (said ≡ originAs (originOf (now text))) ⌝ }
+    ensures { λ r. ⌜ decided r ≡ questionPolicy (slotPolicy (now (slot .entry))) feature (askedAt (originOf (now (text .entry))) (ownOrigin (now (slot .entry)))) ⌝ }
+{
+    if bit(
+        lent_bytes::number(slot, document_records::EVERYWHERE),
+        feature,
+    ) {
+        return true;
+    }
     match said {
-        OriginText::Empty => document_records::own_question(d, feature),
-        OriginText::Null => document_records::question(d, feature, text, OriginRange::Fresh),
-        OriginText::Tuple(r) => document_records::question(d, feature, text, OriginRange::Tuple(r)),
-        OriginText::NotAnOrigin => document_records::question(d, feature, text, OriginRange::Fresh),
+        OriginText::Empty => bit(lent_bytes::number(slot, document_records::ENABLED), feature),
+        OriginText::Null => false,
+        OriginText::Tuple(t) => tuple_decided(slot, feature, text, t),
+        OriginText::NotAnOrigin => false,
+    }
+}
+
+// The answer of a decision.
+fn answered(enabled: bool) -> QuestionAnswer
+    ensures { λ r. ⌜ questionIn r ≡ decision (decided enabled) ⌝ }
+{
+    if enabled {
+        QuestionAnswer::Enabled
+    } else {
+        QuestionAnswer::Disabled
     }
 }
 
@@ -124,9 +183,9 @@ fn is_bad(said: OriginText) -> bool
 }
 
 // The question of a feature to a document at an origin.
-pub fn question(t: Table, serial: u32, feature: u32, origin: &[u8]) -> QuestionAnswer
-    requires { ⌜ Valid t ⌝ }
-    ensures { λ r. ⌜ Decides (question serial feature (now (origin .entry))) t r ⌝ }
+pub fn question(run: &[u8], serial: u32, feature: u32, origin: &[u8]) -> QuestionAnswer
+    requires { ⌜ Valid (now run) ⌝ }
+    ensures { λ r. ⌜ Decides (question serial feature (now (origin .entry))) (now (run .entry)) r ⌝ }
 {
     let said = origins::origin_text(origin);
     if is_bad(said) {
@@ -135,63 +194,54 @@ pub fn question(t: Table, serial: u32, feature: u32, origin: &[u8]) -> QuestionA
     if features::COUNT as u32 <= feature {
         return QuestionAnswer::Refused(Refusal::NoSuchFeature);
     }
-    match document_table::find(t, serial) {
+    match document_table::find(run, serial) {
         Found::At(i) => {
-            let d = document_table::document_at(t, i);
-            decided(asked(d, feature, origin, said))
+            let slot = document_table::slot(run, i);
+            answered(is_enabled(slot, feature, origin, said))
         }
         Found::None => QuestionAnswer::Refused(Refusal::NotLoaded),
     }
 }
 
 // The features enabled at a document's own origin.
-pub fn enabled_features(t: Table, serial: u32) -> FeaturesAnswer
-    requires { ⌜ Valid t ⌝ }
-    ensures { λ r. ⌜ TellsFeatures (enabledFeatures serial) t r ⌝ }
+pub fn enabled_features(run: &[u8], serial: u32) -> FeaturesAnswer
+    requires { ⌜ Valid (now run) ⌝ }
+    ensures { λ r. ⌜ TellsFeatures (enabledFeatures serial) (now (run .entry)) r ⌝ }
 {
-    match document_table::find(t, serial) {
+    match document_table::find(run, serial) {
         Found::At(i) => {
-            let d = document_table::document_at(t, i);
-            FeaturesAnswer::Features(document_records::enabled(d))
+            let slot = document_table::slot(run, i);
+            FeaturesAnswer::Features(document_records::enabled(slot))
         }
         Found::None => FeaturesAnswer::Refused(Refusal::NotLoaded),
     }
 }
 
 // A document goes, and all beneath it.
-pub fn unload(t: Table, serial: u32) -> Unloading
-    requires { ⌜ Valid t ⌝ }
-    ensures { λ r. ⌜ Unloads (unload serial) t r ⌝ }
+pub fn unload(run: &mut [u8], serial: u32) -> UnloadAnswer
+    requires { ⌜ Valid (now run) ⌝ }
+    ensures { λ r. ⌜ Unloads (unload serial) (now (run .entry)) (now (run .exit)) r × (removedBy r ≤ documentLimit) ⌝ }
 {
-    match document_table::find(t, serial) {
-        Found::At(_) => {
-            let u = document_table::remove(t, serial);
-            Unloading {
-                answer: UnloadAnswer::Removed(t.count - u.count),
-                table: u,
-            }
-        }
-        Found::None => {
-            let answer = UnloadAnswer::Refused(Refusal::NotLoaded);
-            Unloading { answer, table: t }
-        }
+    match document_table::find(run, serial) {
+        Found::At(_) => UnloadAnswer::Removed(document_table::remove(run, serial)),
+        Found::None => UnloadAnswer::Refused(Refusal::NotLoaded),
     }
 }
 
-// The serials beneath a document, ascending, written into a lent run.
-pub fn list_beneath(t: Table, serial: u32, run: &mut [u32]) -> ListingAnswer
-    requires { ⌜ Valid t ⌝ }
-    ensures { λ r. ⌜ Lists (listing serial (now (run .entry))) t (now (run .entry)) (now (run .exit)) r ⌝ }
+// The serials beneath a document, ascending, written into a lent run of numbers.
+pub fn list_beneath(run: &[u8], serial: u32, out: &mut [u32]) -> ListingAnswer
+    requires { ⌜ Valid (now run) ⌝ }
+    ensures { λ r. ⌜ Lists (listing serial (now (out .entry))) (now (run .entry)) (now (out .entry)) (now (out .exit)) r × (listedBy r ≤ documentLimit) ⌝ }
 {
-    match document_table::find(t, serial) {
+    match document_table::find(run, serial) {
         Found::At(_) => {
-            let s = document_table::serials_beneath(t, serial);
+            let s = document_table::serials_beneath(run, serial);
             let n = s.count;
-            if run.len() < n {
+            if out.len() < n {
                 return ListingAnswer::Refused(Refusal::Small);
             }
             let list = s.list;
-            store(run, list, n);
+            store(out, list, n);
             ListingAnswer::Count(n)
         }
         Found::None => ListingAnswer::Refused(Refusal::NotLoaded),
@@ -212,15 +262,15 @@ fn store(run: &mut [u32], list: [u32; DOCUMENTS], n: usize)
 
 // What a frame with these attributes would inherit in a document at its declared origin.
 pub fn forecast(
-    t: Table,
+    run: &[u8],
     container: u32,
     src: &[u8],
     marks: FrameMarks,
     allow: &[u8],
     sandbox: &[u8],
 ) -> FeaturesAnswer
-    requires { ⌜ Valid t ⌝ }
-    ensures { λ r. ⌜ TellsFeatures (forecastOf container (attributes (now (allow .entry)) marks (now (sandbox .entry)) (now (src .entry)))) t r ⌝ }
+    requires { ⌜ Valid (now run) ⌝ }
+    ensures { λ r. ⌜ TellsFeatures (forecastOf container (attributes (now (allow .entry)) marks (now (sandbox .entry)) (now (src .entry)))) (now (run .entry)) r ⌝ }
 {
     if TEXT_BYTES < allow.len() {
         return FeaturesAnswer::Refused(Refusal::TooLong);
@@ -232,9 +282,9 @@ pub fn forecast(
     if is_bad(said) {
         return FeaturesAnswer::Refused(Refusal::BadOrigin);
     }
-    match document_table::find(t, container) {
+    match document_table::find(run, container) {
         Found::At(i) => {
-            let c = document_table::document_at(t, i);
+            let c = document_table::slot(run, i);
             FeaturesAnswer::Features(document_loads::foretold(c, src, marks, allow, sandbox))
         }
         Found::None => FeaturesAnswer::Refused(Refusal::NotLoaded),
@@ -260,52 +310,51 @@ fn is_bad_at_top(said: OriginText) -> bool
 }
 
 // Room and a serial for a load.
-fn room_for_one(t: Table) -> Room
-    ensures { λ r. ⌜ IsRoom t r ⌝ }
+fn room_for_one(run: &[u8]) -> Room
+    requires { ⌜ Sound (now run) ⌝ }
+    ensures { λ r. ⌜ IsRoom (now (run .entry)) r ⌝ }
 {
-    if DOCUMENTS <= t.count {
+    let n = document_table::count(run);
+    if DOCUMENTS <= n {
         return Room::Refused(Refusal::Full);
     }
-    if (limits::LAST_SERIAL as u64) < t.next {
+    let last = document_table::last(run);
+    if limits::LAST_SERIAL <= last {
         return Room::Refused(Refusal::Spent);
     }
-    Room::Serial(t.next as u32)
+    Room::Serial(last + 1)
+}
+
+// Writes a document into the first free slot and gives it the next serial.
+fn place(run: &mut [u8], serial: u32, d: NewDocument, header: &[u8]) -> LoadedDocument
+    requires { ⌜ HasRoom (now run) × Fits d × (length (now header) ≤ textBytes) ⌝ }
+    ensures { λ r. ⌜ Places (now (run .entry)) d (now (header .entry)) (now (run .exit)) r × (r .serial ≡ serial) ⌝ }
+{
+    let n = document_table::count(run);
+    let p = document_table::slot_place(run, n);
+    let e = p + document_records::SLOT_BYTES;
+    let malformed = document_loads::write_document(&mut run[p..e], d, header);
+    document_table::push(run);
+    LoadedDocument { serial, malformed }
 }
 
 // A document is loaded at the top.
-pub fn load_top(t: Table, origin: &[u8], header: &[u8]) -> Loading
-    requires { ⌜ Valid t ⌝ }
-    ensures { λ r. ⌜ Loads (topLoad (now (header .entry)) (now (origin .entry))) t r ⌝ }
+pub fn load_top(run: &mut [u8], origin: &[u8], header: &[u8]) -> LoadAnswer
+    requires { ⌜ Valid (now run) ⌝ }
+    ensures { λ r. ⌜ Loads (topLoad (now (header .entry)) (now (origin .entry))) (now (run .entry)) (now (run .exit)) r ⌝ }
 {
     if TEXT_BYTES < header.len() {
-        return Loading {
-            answer: LoadAnswer::Refused(Refusal::TooLong),
-            table: t,
-        };
+        return LoadAnswer::Refused(Refusal::TooLong);
     }
     let said = origins::origin_text(origin);
     if is_bad_at_top(said) {
-        return Loading {
-            answer: LoadAnswer::Refused(Refusal::BadOrigin),
-            table: t,
-        };
+        return LoadAnswer::Refused(Refusal::BadOrigin);
     }
-    match room_for_one(t) {
-        Room::Refused(n) => Loading {
-            answer: LoadAnswer::Refused(n),
-            table: t,
-        },
+    match room_for_one(run) {
+        Room::Refused(n) => LoadAnswer::Refused(n),
         Room::Serial(n) => {
-            let new = document_loads::top_document(n, origin, header);
-            let d = new.document;
-            let u = document_table::push(t, d);
-            Loading {
-                answer: LoadAnswer::Loaded(LoadedDocument {
-                    serial: n,
-                    malformed: new.malformed,
-                }),
-                table: u,
-            }
+            let d = document_loads::top_document(n, origin);
+            LoadAnswer::Loaded(place(run, n, d, header))
         }
     }
 }
@@ -352,23 +401,24 @@ fn frame_texts(
 
 // Refusals 1, 5, 6 and 7 of a framed load, or where it goes.
 fn frame_room(
-    t: Table,
+    run: &[u8],
     container: u32,
     said: OriginText,
     has_sandbox: bool,
     sandbox: &[u8],
 ) -> FrameRoom
-    requires { ⌜ Valid t ⌝ }
-    ensures { λ r. ⌜ IsFrameRoom t container said «has_sandbox» (now (sandbox .entry)) r ⌝ }
+    requires { ⌜ Valid (now run) ⌝ }
+    ensures { λ r. ⌜ IsFrameRoom (now (run .entry)) container said «has_sandbox» (now (sandbox .entry)) r ⌝ }
 {
-    match document_table::find(t, container) {
+    match document_table::find(run, container) {
         Found::At(i) => {
-            let c = document_table::document_at(t, i);
-            let sandboxed = containers::is_sandboxed(c.sandboxed, has_sandbox, sandbox);
+            let c = document_table::slot(run, i);
+            let above = document_records::is_sandboxed(c);
+            let sandboxed = containers::is_sandboxed(above, has_sandbox, sandbox);
             if is_barred(sandboxed, said) {
                 return FrameRoom::Refused(Refusal::Sandbox);
             }
-            match room_for_one(t) {
+            match room_for_one(run) {
                 Room::Refused(n) => FrameRoom::Refused(n),
                 Room::Serial(n) => FrameRoom::At(FramePlace {
                     container: i,
@@ -382,7 +432,7 @@ fn frame_room(
 
 // Every refusal of a framed load, or where it goes.
 fn frame_admitted(
-    t: Table,
+    run: &[u8],
     container: u32,
     said: OriginText,
     src_said: OriginText,
@@ -391,55 +441,19 @@ fn frame_admitted(
     sandbox: &[u8],
     header: &[u8],
 ) -> FrameRoom
-    requires { ⌜ Valid t ⌝ }
-    ensures { λ r. ⌜ IsAdmitted t container said «src_said» marks (now (allow .entry)) (now (sandbox .entry)) (now (header .entry)) r ⌝ }
+    requires { ⌜ Valid (now run) ⌝ }
+    ensures { λ r. ⌜ IsAdmitted (now (run .entry)) container said «src_said» marks (now (allow .entry)) (now (sandbox .entry)) (now (header .entry)) r ⌝ }
 {
     match frame_texts(header, allow, sandbox, said, src_said) {
         Texts::Refused(n) => FrameRoom::Refused(n),
-        Texts::Good => frame_room(t, container, said, marks.has_sandbox, sandbox),
+        Texts::Good => frame_room(run, container, said, marks.has_sandbox, sandbox),
     }
 }
 
-// A document is loaded at its place, in a frame of the document there.
+// A document is loaded in a frame of the document at a place.
 fn load_at(
-    t: Table,
+    run: &mut [u8],
     p: FramePlace,
-    origin: &[u8],
-    src: &[u8],
-    marks: FrameMarks,
-    allow: &[u8],
-    sandbox: &[u8],
-    header: &[u8],
-) -> Loading
-    requires { ⌜ HasPlace t p ⌝ }
-    ensures { λ r. ⌜ LoadsAt t p (now (header .entry)) (now (origin .entry)) (attributes (now (allow .entry)) marks (now (sandbox .entry)) (now (src .entry))) r ⌝ }
-{
-    let c = document_table::document_at(t, p.container);
-    let serial = p.serial;
-    let new = document_loads::framed_document(
-        c,
-        serial,
-        origin,
-        src,
-        marks,
-        allow,
-        sandbox,
-        header,
-    );
-    let d = new.document;
-    let u = document_table::push(t, d);
-    Loading {
-        answer: LoadAnswer::Loaded(LoadedDocument {
-            serial,
-            malformed: new.malformed,
-        }),
-        table: u,
-    }
-}
-
-// A document is loaded in a frame of another.
-pub fn load_framed(
-    t: Table,
     container: u32,
     origin: &[u8],
     src: &[u8],
@@ -447,17 +461,63 @@ pub fn load_framed(
     allow: &[u8],
     sandbox: &[u8],
     header: &[u8],
-) -> Loading
-    requires { ⌜ Valid t ⌝ }
-    ensures { λ r. ⌜ Loads (framedLoad container (now (header .entry)) (now (origin .entry)) (attributes (now (allow .entry)) marks (now (sandbox .entry)) (now (src .entry)))) t r ⌝ }
+) -> LoadAnswer
+    requires { ⌜ HasPlace (now run) p × (length (now header) ≤ textBytes) ⌝ }
+    ensures { λ r. ⌜ LoadsAt (now (run .entry)) p container (now (header .entry)) (now (origin .entry)) (attributes (now (allow .entry)) marks (now (sandbox .entry)) (now (src .entry))) (now (run .exit)) r ⌝ }
+{
+    let i = p.container;
+    let serial = p.serial;
+    let c = document_table::slot(run, i);
+    let d = document_loads::framed_document(
+        c,
+        container,
+        serial,
+        origin,
+        src,
+        marks,
+        allow,
+        sandbox,
+    );
+    LoadAnswer::Loaded(place(run, serial, d, header))
+}
+
+// A document is loaded in a frame of another.
+pub fn load_framed(
+    run: &mut [u8],
+    container: u32,
+    origin: &[u8],
+    src: &[u8],
+    marks: FrameMarks,
+    allow: &[u8],
+    sandbox: &[u8],
+    header: &[u8],
+) -> LoadAnswer
+    requires { ⌜ Valid (now run) ⌝ }
+    ensures { λ r. ⌜ Loads (framedLoad container (now (header .entry)) (now (origin .entry)) (attributes (now (allow .entry)) marks (now (sandbox .entry)) (now (src .entry)))) (now (run .entry)) (now (run .exit)) r ⌝ }
 {
     let said = origins::origin_text(origin);
     let src_said = origins::origin_text(src);
-    match frame_admitted(t, container, said, src_said, marks, allow, sandbox, header) {
-        FrameRoom::Refused(n) => Loading {
-            answer: LoadAnswer::Refused(n),
-            table: t,
-        },
-        FrameRoom::At(p) => load_at(t, p, origin, src, marks, allow, sandbox, header),
+    match frame_admitted(
+        run,
+        container,
+        said,
+        src_said,
+        marks,
+        allow,
+        sandbox,
+        header,
+    ) {
+        FrameRoom::Refused(n) => LoadAnswer::Refused(n),
+        FrameRoom::At(p) => load_at(
+            run,
+            p,
+            container,
+            origin,
+            src,
+            marks,
+            allow,
+            sandbox,
+            header,
+        ),
     }
 }

@@ -1,13 +1,13 @@
--- The limits of document 01, each stated once.
+-- The limits of document 01 and, for texts and documents, of 02, R-4, each stated once.
 use Prim.Native.Nat.{ℕ}
 
--- "A header is an RFC 8941 dictionary of at most 1,024 bytes", "An allow attribute (at most 1,024 bytes)", and refusal 4
+-- 02, R-4: "to 4,096 bytes for header, allow, sandbox and tidied form"
 abbrev pub textBytes : ℕ
-textBytes = 1024
+textBytes = 4096
 
--- "At most 16 documents, in any number of trees"
+-- 02, R-4: "Raise to 64 documents"; 01: "in any number of trees"
 abbrev pub documentLimit : ℕ
-documentLimit = 16
+documentLimit = 64
 
 -- refusal 7: "a load, after serial 4,294,967,295 was given"
 abbrev pub lastSerial : ℕ

@@ -1,12 +1,12 @@
-// The limits of document 01 and its refusals: one place for both.
+// The limits of documents 01 and 02, and the refusals: one place for both.
 ghost use mathlib.Core.Path.{_≡_};
 ghost use Rattle.limits.specs.Refusals.{refusalNumber};
 
 // The longest header, allow attribute, sandbox attribute and tidied form, in bytes.
-pub const TEXT_BYTES: usize = 1024;
+pub const TEXT_BYTES: usize = 4096;
 
 // The most documents that are loaded at one time.
-pub const DOCUMENTS: usize = 16;
+pub const DOCUMENTS: usize = 64;
 
 // The last serial that is given.
 pub const LAST_SERIAL: u32 = 4_294_967_295;

@@ -21,8 +21,7 @@ use Rattle.document_model.specs.Model.{Text, Document, Table as ModelTable, fin
 use Rattle.document_model.proofs.Laws.{beneath-fewer}
 use Rattle.document_model.proofs.Parts.{stored-is}
 use Rattle.document_model.proofs.RowByRow.{answer-of, listing-closed, listing-small, listing-answer}
-use Rattle.document_table.specs.declared.Table.{Table}
-use Rattle.document_table.specs.Tables.{docsIn, view}
+use Rattle.document_table.specs.Layout.{docsIn, view}
 use Rattle.document_table.proofs.Laws.{docs-length}
 use Rattle.documents.specs.Answers.{Valid}
 use Rattle.replay_answers.specs.Texts.{answerText, beneathText, tidiedText, tidyText}
@@ -61,12 +60,12 @@ module _ (t : ModelTable) (s : ℕ) (a b : List ℕ) (wide : length (serialsBene
               short false q = leb-false (length (serialsBeneath s (t .docs))) (length b) q
 
 -- ROOM places, or as many as there can be documents
-pub room-listed : (t : Table) (s room n : ℕ) → Valid t → n ≡ min room 16 → answerText (answerTo (listing s (take n (replicate 16 0))) (view t)) ≡ answerText (answerTo (listing s (replicate room 0)) (view t))
+pub room-listed : (t : List ℕ) (s room n : ℕ) → Valid t → n ≡ min room documentLimit → answerText (answerTo (listing s (take n (replicate documentLimit 0))) (view t)) ≡ answerText (answerTo (listing s (replicate room 0)) (view t))
 room-listed t s room n valid e =
-    let few : length (serialsBeneath s (docsIn t)) ≤ 16 = omega (arith, beneath-fewer s (docsIn t), docs-length t, valid .sound .count) in
-    let a : length {A = ℕ} (take n (replicate 16 0)) ≡ n = length-take-le n (replicate 16 0) (omega arith) in
+    let few : length (serialsBeneath s (docsIn t)) ≤ documentLimit = omega (arith, beneath-fewer s (docsIn t), docs-length t, valid .sound .count) in
+    let a : length {A = ℕ} (take n (replicate documentLimit 0)) ≡ n = length-take-le n (replicate documentLimit 0) (omega arith) in
     let b : length {A = ℕ} (replicate room 0) ≡ room = length-replicate room 0 in
-    found-room (view t) s (take n (replicate 16 0)) (replicate room 0) (λ h. omega arith) (λ h. omega arith) (find s (docsIn t)) refl
+    found-room (view t) s (take n (replicate documentLimit 0)) (replicate room 0) (λ h. omega arith) (λ h. omega arith) (find s (docsIn t)) refl
 
 -- ---- tidying
 

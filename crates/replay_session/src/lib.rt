@@ -7,7 +7,7 @@ ghost use Rattle.tidying.specs.Tidied.{tidied};
 ghost use Rattle.tidying.specs.Answers.{tidyAnswer};
 ghost use Rattle.document_model.specs.Model.{topLoad, framedLoad, unload, question, enabledFeatures, listing, forecastOf, answerTo};
 ghost use Rattle.document_loads.specs.Loads.{attributes};
-ghost use Rattle.document_table.specs.Tables.{view};
+ghost use Rattle.document_table.specs.Layout.{view};
 ghost use Rattle.documents.specs.Answers.{Valid};
 ghost use Rattle.replay_answers.specs.Texts.{answerText};
 ghost use Rattle.replay_answers.specs.Promises.{Says};
@@ -18,7 +18,6 @@ ghost use Rattle.replay_session.specs.Session.{tidyLineText, lineAnswer}
 ghost use Rattle.replay_session.specs.Answers.{marksIn, Makes, Answers};
 use ascii::TextRange;
 use document_loads::FrameMarks;
-use document_table::Table;
 use limits::DOCUMENTS;
 use limits::TEXT_BYTES;
 use replay_lines::AskLine;
@@ -29,12 +28,6 @@ use replay_lines::FrameLine;
 use replay_lines::Line;
 use replay_lines::TidyLine;
 use replay_lines::TopLine;
-
-// The table after a line, and the place after its answer.
-pub struct Answered {
-    pub table: Table,
-    pub to: usize,
-}
 
 fn text(texts: &[u8], p: TextRange) -> &[u8]
     ensures { λ r. ⌜ now r ≡ partIn (now (texts .entry)) p ⌝ }
@@ -57,22 +50,17 @@ fn marks(a: AttributeRanges) -> FrameMarks
     }
 }
 
-fn top_line(t: Table, l: TopLine, texts: &[u8], out: &mut [u8], at: usize) -> Answered
-    requires { ⌜ Valid t ⌝ }
-    ensures { λ r. ⌜ Makes (topLoad (partIn (now (texts .entry)) (l .header)) (partIn (now (texts .entry)) (l .origin))) t (now (out .entry)) at (now (out .exit)) r ⌝ }
+fn top_line(run: &mut [u8], l: TopLine, texts: &[u8], out: &mut [u8], at: usize) -> usize
+    requires { ⌜ Valid (now run) ⌝ }
+    ensures { λ r. ⌜ Makes (topLoad (partIn (now (texts .entry)) (l .header)) (partIn (now (texts .entry)) (l .origin))) (now (run .entry)) (now (run .exit)) (now (out .entry)) at (now (out .exit)) r ⌝ }
 {
-    let r = documents::load_top(t, text(texts, l.origin), text(texts, l.header));
-    let table = r.table;
-    let a = r.answer;
-    Answered {
-        table,
-        to: replay_answers::put_load(out, at, a),
-    }
+    let a = documents::load_top(run, text(texts, l.origin), text(texts, l.header));
+    replay_answers::put_load(out, at, a)
 }
 
 // A framed load, and its answer put.
 fn frame_put(
-    t: Table,
+    run: &mut [u8],
     container: u32,
     origin: &[u8],
     src: &[u8],
@@ -82,26 +70,21 @@ fn frame_put(
     header: &[u8],
     out: &mut [u8],
     at: usize,
-) -> Answered
-    requires { ⌜ Valid t ⌝ }
-    ensures { λ r. ⌜ Makes (framedLoad container (now (header .entry)) (now (origin .entry)) (attributes (now (allow .entry)) marks (now (sandbox .entry)) (now (src .entry)))) t (now (out .entry)) at (now (out .exit)) r ⌝ }
+) -> usize
+    requires { ⌜ Valid (now run) ⌝ }
+    ensures { λ r. ⌜ Makes (framedLoad container (now (header .entry)) (now (origin .entry)) (attributes (now (allow .entry)) marks (now (sandbox .entry)) (now (src .entry)))) (now (run .entry)) (now (run .exit)) (now (out .entry)) at (now (out .exit)) r ⌝ }
 {
-    let r = documents::load_framed(t, container, origin, src, marks, allow, sandbox, header);
-    let table = r.table;
-    let a = r.answer;
-    Answered {
-        table,
-        to: replay_answers::put_load(out, at, a),
-    }
+    let a = documents::load_framed(run, container, origin, src, marks, allow, sandbox, header);
+    replay_answers::put_load(out, at, a)
 }
 
-fn frame_line(t: Table, l: FrameLine, texts: &[u8], out: &mut [u8], at: usize) -> Answered
-    requires { ⌜ Valid t ⌝ }
-    ensures { λ r. ⌜ Makes (framedLoad (l .container) (partIn (now (texts .entry)) (l .header)) (partIn (now (texts .entry)) (l .origin)) (attributesIn (now (texts .entry)) (l .attributes))) t (now (out .entry)) at (now (out .exit)) r ⌝ }
+fn frame_line(run: &mut [u8], l: FrameLine, texts: &[u8], out: &mut [u8], at: usize) -> usize
+    requires { ⌜ Valid (now run) ⌝ }
+    ensures { λ r. ⌜ Makes (framedLoad (l .container) (partIn (now (texts .entry)) (l .header)) (partIn (now (texts .entry)) (l .origin)) (attributesIn (now (texts .entry)) (l .attributes))) (now (run .entry)) (now (run .exit)) (now (out .entry)) at (now (out .exit)) r ⌝ }
 {
     let f = l.attributes;
     frame_put(
-        t,
+        run,
         l.container,
         text(texts, l.origin),
         text(texts, f.src),
@@ -114,57 +97,52 @@ fn frame_line(t: Table, l: FrameLine, texts: &[u8], out: &mut [u8], at: usize) -
     )
 }
 
-fn unload_line(t: Table, serial: u32, out: &mut [u8], at: usize) -> Answered
-    requires { ⌜ Valid t ⌝ }
-    ensures { λ r. ⌜ Makes (unload serial) t (now (out .entry)) at (now (out .exit)) r ⌝ }
+fn unload_line(run: &mut [u8], serial: u32, out: &mut [u8], at: usize) -> usize
+    requires { ⌜ Valid (now run) ⌝ }
+    ensures { λ r. ⌜ Makes (unload serial) (now (run .entry)) (now (run .exit)) (now (out .entry)) at (now (out .exit)) r ⌝ }
 {
-    let r = documents::unload(t, serial);
-    let table = r.table;
-    let a = r.answer;
-    Answered {
-        table,
-        to: replay_answers::put_unload(out, at, a),
-    }
+    let a = documents::unload(run, serial);
+    replay_answers::put_unload(out, at, a)
 }
 
-fn ask_line(t: Table, l: AskLine, texts: &[u8], out: &mut [u8], at: usize) -> usize
-    requires { ⌜ Valid t ⌝ }
-    ensures { λ r. ⌜ Says (now (out .entry)) at (answerText (answerTo (question (l .serial) (l .feature) (partIn (now (texts .entry)) (l .origin))) (view t))) (now (out .exit)) r ⌝ }
+fn ask_line(run: &[u8], l: AskLine, texts: &[u8], out: &mut [u8], at: usize) -> usize
+    requires { ⌜ Valid (now run) ⌝ }
+    ensures { λ r. ⌜ Says (now (out .entry)) at (answerText (answerTo (question (l .serial) (l .feature) (partIn (now (texts .entry)) (l .origin))) (view (now (run .entry))))) (now (out .exit)) r ⌝ }
 {
-    let a = documents::question(t, l.serial, l.feature, text(texts, l.origin));
+    let a = documents::question(run, l.serial, l.feature, text(texts, l.origin));
     replay_answers::put_question(out, at, a)
 }
 
-fn enabled_line(t: Table, serial: u32, out: &mut [u8], at: usize) -> usize
-    requires { ⌜ Valid t ⌝ }
-    ensures { λ r. ⌜ Says (now (out .entry)) at (answerText (answerTo (enabledFeatures serial) (view t))) (now (out .exit)) r ⌝ }
+fn enabled_line(run: &[u8], serial: u32, out: &mut [u8], at: usize) -> usize
+    requires { ⌜ Valid (now run) ⌝ }
+    ensures { λ r. ⌜ Says (now (out .entry)) at (answerText (answerTo (enabledFeatures serial) (view (now (run .entry))))) (now (out .exit)) r ⌝ }
 {
-    let a = documents::enabled_features(t, serial);
+    let a = documents::enabled_features(run, serial);
     replay_answers::put_features(out, at, a)
 }
 
 // A listing into lent places.
-fn list_into(t: Table, serial: u32, places: &mut [u32], out: &mut [u8], at: usize) -> usize
-    requires { ⌜ Valid t × (length (now places) ≤ documentLimit) ⌝ }
-    ensures { λ r. ⌜ Says (now (out .entry)) at (answerText (answerTo (listing serial (now (places .entry))) (view t))) (now (out .exit)) r ⌝ }
+fn list_into(run: &[u8], serial: u32, places: &mut [u32], out: &mut [u8], at: usize) -> usize
+    requires { ⌜ Valid (now run) × (length (now places) ≤ documentLimit) ⌝ }
+    ensures { λ r. ⌜ Says (now (out .entry)) at (answerText (answerTo (listing serial (now (places .entry))) (view (now (run .entry))))) (now (out .exit)) r ⌝ }
 {
-    let a = documents::list_beneath(t, serial, places);
+    let a = documents::list_beneath(run, serial, places);
     replay_answers::put_listing(out, at, a, places)
 }
 
 // A listing into ROOM places, or as many as there are documents.
-fn beneath_line(t: Table, l: BeneathLine, out: &mut [u8], at: usize) -> usize
-    requires { ⌜ Valid t ⌝ }
-    ensures { λ r. ⌜ Says (now (out .entry)) at (lineAnswer (beneath (l .serial) (l .room)) (view t)) (now (out .exit)) r ⌝ }
+fn beneath_line(run: &[u8], l: BeneathLine, out: &mut [u8], at: usize) -> usize
+    requires { ⌜ Valid (now run) ⌝ }
+    ensures { λ r. ⌜ Says (now (out .entry)) at (lineAnswer (beneath (l .serial) (l .room)) (view (now (run .entry)))) (now (out .exit)) r ⌝ }
 {
     let mut places = [0u32; DOCUMENTS];
     let n = least(l.room as usize, DOCUMENTS);
-    list_into(t, l.serial, &mut places[..n], out, at)
+    list_into(run, l.serial, &mut places[..n], out, at)
 }
 
 // A forecast, and its answer put.
 fn forecast_put(
-    t: Table,
+    run: &[u8],
     container: u32,
     src: &[u8],
     marks: FrameMarks,
@@ -173,20 +151,20 @@ fn forecast_put(
     out: &mut [u8],
     at: usize,
 ) -> usize
-    requires { ⌜ Valid t ⌝ }
-    ensures { λ r. ⌜ Says (now (out .entry)) at (answerText (answerTo (forecastOf container (attributes (now (allow .entry)) marks (now (sandbox .entry)) (now (src .entry)))) (view t))) (now (out .exit)) r ⌝ }
+    requires { ⌜ Valid (now run) ⌝ }
+    ensures { λ r. ⌜ Says (now (out .entry)) at (answerText (answerTo (forecastOf container (attributes (now (allow .entry)) marks (now (sandbox .entry)) (now (src .entry)))) (view (now (run .entry))))) (now (out .exit)) r ⌝ }
 {
-    let a = documents::forecast(t, container, src, marks, allow, sandbox);
+    let a = documents::forecast(run, container, src, marks, allow, sandbox);
     replay_answers::put_features(out, at, a)
 }
 
-fn forecast_line(t: Table, l: ForecastLine, texts: &[u8], out: &mut [u8], at: usize) -> usize
-    requires { ⌜ Valid t ⌝ }
-    ensures { λ r. ⌜ Says (now (out .entry)) at (answerText (answerTo (forecastOf (l .container) (attributesIn (now (texts .entry)) (l .attributes))) (view t))) (now (out .exit)) r ⌝ }
+fn forecast_line(run: &[u8], l: ForecastLine, texts: &[u8], out: &mut [u8], at: usize) -> usize
+    requires { ⌜ Valid (now run) ⌝ }
+    ensures { λ r. ⌜ Says (now (out .entry)) at (answerText (answerTo (forecastOf (l .container) (attributesIn (now (texts .entry)) (l .attributes))) (view (now (run .entry))))) (now (out .exit)) r ⌝ }
 {
     let f = l.attributes;
     forecast_put(
-        t,
+        run,
         l.container,
         text(texts, f.src),
         marks(f),
@@ -215,38 +193,20 @@ fn tidy_line(l: TidyLine, texts: &[u8], out: &mut [u8], at: usize) -> usize
     tidy_into(text(texts, l.header), &mut form[..n], out, at)
 }
 
-// A line's answer, put at a place of a lent run, and the table that it leaves.
-pub fn answer(t: Table, line: Line, texts: &[u8], out: &mut [u8], at: usize) -> Answered
-    requires { ⌜ Valid t ⌝ }
-    ensures { λ r. ⌜ Answers (lineIn (now (texts .entry)) line) t (now (out .entry)) at (now (out .exit)) r ⌝ }
+// A line's answer, put at a place of a lent run; and the table in its own run.
+pub fn answer(run: &mut [u8], line: Line, texts: &[u8], out: &mut [u8], at: usize) -> usize
+    requires { ⌜ Valid (now run) ⌝ }
+    ensures { λ r. ⌜ Answers (lineIn (now (texts .entry)) line) (now (run .entry)) (now (run .exit)) (now (out .entry)) at (now (out .exit)) r ⌝ }
 {
     match line {
-        Line::Top(l) => top_line(t, l, texts, out, at),
-        Line::Frame(l) => frame_line(t, l, texts, out, at),
-        Line::Unload(serial) => unload_line(t, serial, out, at),
-        Line::Ask(l) => Answered {
-            table: t,
-            to: ask_line(t, l, texts, out, at),
-        },
-        Line::Enabled(serial) => Answered {
-            table: t,
-            to: enabled_line(t, serial, out, at),
-        },
-        Line::Beneath(l) => Answered {
-            table: t,
-            to: beneath_line(t, l, out, at),
-        },
-        Line::Forecast(l) => Answered {
-            table: t,
-            to: forecast_line(t, l, texts, out, at),
-        },
-        Line::Tidy(l) => Answered {
-            table: t,
-            to: tidy_line(l, texts, out, at),
-        },
-        Line::Bad => Answered {
-            table: t,
-            to: replay_answers::put_bad_line(out, at),
-        },
+        Line::Top(l) => top_line(run, l, texts, out, at),
+        Line::Frame(l) => frame_line(run, l, texts, out, at),
+        Line::Unload(serial) => unload_line(run, serial, out, at),
+        Line::Ask(l) => ask_line(run, l, texts, out, at),
+        Line::Enabled(serial) => enabled_line(run, serial, out, at),
+        Line::Beneath(l) => beneath_line(run, l, out, at),
+        Line::Forecast(l) => forecast_line(run, l, texts, out, at),
+        Line::Tidy(l) => tidy_line(l, texts, out, at),
+        Line::Bad => replay_answers::put_bad_line(out, at),
     }
 }

@@ -1,8 +1,9 @@
-// A replayed session: calls on one new table from standard input, a line each, and their answers on standard output.
+// A replayed session: calls on one new table in a lent run, from standard input, a line each, and their answers on standard output.
 ghost use Prim.Native.Nat.{_≤_};
-ghost use Rattle.replaying.specs.Sessions.{outBytes, Ready, Ends};
+ghost use Rattle.documents.specs.Answers.{Valid};
+ghost use Rattle.replaying.specs.Sessions.{outBytes, Ready, Ends, Replayed};
 use ascii::Class;
-use document_table::Table;
+use documents::NewAnswer;
 use replay_lines::LINE_BYTES;
 use replay_lines::LineState;
 
@@ -12,12 +13,11 @@ const STDOUT: i32 = 1;
 
 const STDERR: i32 = 2;
 
-// Answers are gathered in so many bytes before they are written.
-const OUT_BYTES: usize = 16384;
+// Answers are gathered in so many bytes before they are written: all buffers of a program, its table aside, have to stay within 64 KiB.
+const OUT_BYTES: usize = 6144;
 
-// The table, what was read of the line, whether the line has begun, how many bytes of answers wait to be written, and whether a write failed.
+// What was read of the line, whether the line has begun, how many bytes of answers wait to be written, and whether a write failed.
 struct Session {
-    table: Table,
     line: LineState,
     begun: bool,
     waiting: usize,
@@ -36,20 +36,22 @@ fn flush(out: &[u8; OUT_BYTES], waiting: usize) -> bool
 }
 
 // The line ends: its call is made, and its answer put behind those that wait; these are written where the next might not have room.
-fn end_line(s: Session, texts: &[u8; LINE_BYTES], out: &mut [u8; OUT_BYTES]) -> Session
-    requires { ⌜ Ready s ⌝ }
-    ensures { λ r. ⌜ Ends s (now (texts .entry)) (now (out .entry)) (now (out .exit)) r ⌝ }
+fn end_line(
+    run: &mut [u8],
+    s: Session,
+    texts: &[u8; LINE_BYTES],
+    out: &mut [u8; OUT_BYTES],
+) -> Session
+    requires { ⌜ Ready (now run) s ⌝ }
+    ensures { λ r. ⌜ Ends (now (run .entry)) s (now (texts .entry)) (now (run .exit)) (now (out .entry)) (now (out .exit)) r ⌝ }
 {
     let state = s.line;
-    let t = s.table;
     let call = replay_lines::call(state, texts);
-    let r = replay_session::answer(t, call, texts, out, s.waiting);
-    let to = writing::put_byte(out, r.to, b'\n');
-    let table = r.table;
+    let at = replay_session::answer(run, call, texts, out, s.waiting);
+    let to = writing::put_byte(out, at, b'\n');
     let line = replay_lines::new_line();
     if replay_answers::has_room(out, to) {
         return Session {
-            table,
             line,
             begun: false,
             waiting: to,
@@ -58,7 +60,6 @@ fn end_line(s: Session, texts: &[u8; LINE_BYTES], out: &mut [u8; OUT_BYTES]) -> 
     }
     let written = flush(out, to);
     Session {
-        table,
         line,
         begun: false,
         waiting: 0,
@@ -68,13 +69,14 @@ fn end_line(s: Session, texts: &[u8; LINE_BYTES], out: &mut [u8; OUT_BYTES]) -> 
 
 // A piece of the input: lines, the last perhaps to be continued.
 fn take_piece(
+    run: &mut [u8],
     s: Session,
     piece: &[u8],
     texts: &mut [u8; LINE_BYTES],
     out: &mut [u8; OUT_BYTES],
 ) -> Session
-    requires { ⌜ Ready s ⌝ }
-    ensures { λ r. ⌜ Ready r ⌝ }
+    requires { ⌜ Ready (now run) s ⌝ }
+    ensures { λ r. ⌜ Ready (now (run .exit)) r ⌝ }
 {
     let mut cur = s;
     let mut i: usize = 0;
@@ -84,7 +86,7 @@ fn take_piece(
         cur.line = replay_lines::read(state, ascii::part(piece, i, e), texts);
         if e < piece.len() {
             let next = e + 1;
-            cur = end_line(cur, texts, out);
+            cur = end_line(run, cur, texts, out);
             if cur.failed {
                 return cur;
             }
@@ -98,11 +100,12 @@ fn take_piece(
 }
 
 // The input ends, and so does a line that has begun; the answers that wait are written.
-fn finish(s: Session, texts: &[u8; LINE_BYTES], out: &mut [u8; OUT_BYTES])
-    requires { ⌜ Ready s ⌝ }
+fn finish(run: &mut [u8], s: Session, texts: &[u8; LINE_BYTES], out: &mut [u8; OUT_BYTES])
+    requires { ⌜ Ready (now run) s ⌝ }
+    ensures { λ _. ⌜ Valid (now (run .exit)) ⌝ }
 {
     if s.begun {
-        let last = end_line(s, texts, out);
+        let last = end_line(run, s, texts, out);
         if !last.failed {
             flush(out, last.waiting);
         }
@@ -111,15 +114,16 @@ fn finish(s: Session, texts: &[u8; LINE_BYTES], out: &mut [u8; OUT_BYTES])
     }
 }
 
-// The session, in at most 2^64 - 1 reads. Where a read fails, the line that had begun is dropped.
-pub fn run() {
+// The session on a table, in at most 2^64 - 1 reads. Where a read fails, the line that had begun is dropped.
+fn replay(table: &mut [u8])
+    requires { ⌜ Valid (now table) ⌝ }
+    ensures { λ _. ⌜ Valid (now (table .exit)) ⌝ }
+{
     let mut input = io::buffer();
     let mut texts = [0u8; LINE_BYTES];
     let mut out = [0u8; OUT_BYTES];
-    let t = documents::new_table();
     let line = replay_lines::new_line();
     let mut s = Session {
-        table: t,
         line,
         begun: false,
         waiting: 0,
@@ -137,7 +141,7 @@ pub fn run() {
             if n == 0 {
                 left = 0;
             } else {
-                s = take_piece(s, &input[..n], &mut texts, &mut out);
+                s = take_piece(table, s, &input[..n], &mut texts, &mut out);
                 if s.failed {
                     return;
                 }
@@ -145,5 +149,17 @@ pub fn run() {
             }
         }
     }
-    finish(s, &texts, &mut out);
+    finish(table, s, &texts, &mut out);
+}
+
+// A session on a new table in a lent run; a run that is too short is told.
+pub fn run(table: &mut [u8])
+    ensures { λ _. ⌜ Replayed (now (table .entry)) (now (table .exit)) ⌝ }
+{
+    match documents::new_table(table) {
+        NewAnswer::Ready => replay(table),
+        NewAnswer::Refused(_) => {
+            io::write_all(STDERR, b"replay: the lent run is too short\n");
+        }
+    }
 }

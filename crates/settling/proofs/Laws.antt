@@ -8,6 +8,7 @@ use Rattle.settled.specs.Settled.{declaredIn}
 use Rattle.settling.specs.Promises.{IsSettledIn}
 use Rattle.settling.specs.declared.SettledHeader.{SettledHeader}
 pub use Rattle.settling.proofs.Documents.{settled-says}
+pub use Rattle.settling.proofs.Lengths.{settled-most}
 
 module _ (s before after : List ℕ) (f : SettledHeader) (h : IsSettledIn s before after f) where
   -- a document's bytes say what its header declares wherever they stand, whatever stands before and past them: so they may be moved

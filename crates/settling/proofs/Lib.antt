@@ -3,4 +3,5 @@ pub mod Listing
 pub mod Sizes
 pub mod Documents
 pub mod Members
+pub mod Lengths
 pub mod Laws

@@ -24,7 +24,7 @@ pub record IsSettledIn (s before after : List ℕ) (f : SettledHeader) : Type 0 
   pub rest : drop (f .to) after ≡ drop (f .to) before
   pub long : length after ≡ length before
 
--- which answer is given: 01, "A header is an RFC 8941 dictionary of at most 1,024 bytes"; and the run must have room for the head and the header
+-- which answer is given: 01, "A header is an RFC 8941 dictionary of at most" so many bytes as the limit says; and the run must have room for the head and the header
 pub data Answer : Type 0 where
   tooLong : Answer
   small : Answer

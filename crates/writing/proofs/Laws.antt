@@ -1,27 +1,18 @@
 -- The laws of texts put into a run, for the crates above, which open no definition of this crate. Assumes nothing.
 use mathlib.Core.Path.{_≡_, refl, ap, _∙_, sym}
-use Prim.Native.Nat.{ℕ, suc, _+_, _/_, _%_, _≤_, _<_}
+use Prim.Native.Nat.{ℕ, _+_, _/_, _%_, _≤_, _<_}
 use mathlib.Core.List.{List, [], _∷_, _++_}
 use mathlib.Core.Bool.{Bool, true, false}
 use native.Mathlib.Omega.{arith}
-use lib.ListN.{length, take, drop, set, length-append}
+use lib.ListN.{length, take, drop, length-append}
 use lib.Dec.{leb}
 use borrow.Author.Tests.{leb-true, leb-false}
-use lib.Seq.{sets-eq, length-sets, take-at, length-take-le}
+use lib.Seq.{sets-eq, take-at, length-take-le}
 use Rattle.ascii.specs.Decimals.{decimalText}
 use Rattle.ascii.proofs.Decimals.{decimal-small, decimal-great}
 use Rattle.writing.specs.Writing.{withText, placeAfter, Puts}
 use Rattle.writing.proofs.Copies.{out-of-run}
-
--- the run keeps its length
-with-long : (l : List ℕ) (at : ℕ) (t : List ℕ) → length (withText l at t) ≡ length l
-unfolding withText
-with-long l at t = length-sets l at t
-
-with-append : (s t l : List ℕ) (at : ℕ) → withText l at (s ++ t) ≡ withText (withText l at s) (at + length s) t
-unfolding withText
-with-append [] t l at = let e : at + 0 ≡ at = omega arith in rw e
-with-append (x ∷ s) t l at = let e : at + suc (length s) ≡ suc at + length s = omega arith in rw e (with-append s t (set l at x) (suc at))
+use Rattle.writing.proofs.Places.{put-long, with-append}
 
 -- from the place after a text on, even if that has no room
 with-next : (s t l : List ℕ) (at r : ℕ) → r ≡ placeAfter l at s → withText (withText l at s) r t ≡ withText l at (s ++ t)
@@ -31,13 +22,13 @@ with-next s t l at r h = go (leb (at + length s) (length l)) refl
     go true e = let f : r ≡ at + length s = omega (arith, leb-true (at + length s) (length l) e) in rw f (sym (with-append s t l at))
     go false e =
         let f : length l < at + length s = leb-false (at + length s) (length l) e in
-        let g : length (withText l at s) ≡ length l = with-long l at s in
+        let g : length (withText l at s) ≡ length l = put-long l at s in
         sym (out-of-run t (withText l at s) r (omega arith))
         ∙ (out-of-run t (withText l at s) (at + length s) (omega arith) ∙ sym (with-append s t l at))
 
 module _ (l m : List ℕ) (at r : ℕ) (s : List ℕ) (p : Puts l at s m r) where
   pub puts-long : length m ≡ length l
-  puts-long = rw (p .run) (with-long l at s)
+  puts-long = rw (p .run) (put-long l at s)
 
   -- one text after another is the two together
   pub puts-on : (n t : List ℕ) (q : ℕ) → Puts m r t n q → Puts l at (s ++ t) n q

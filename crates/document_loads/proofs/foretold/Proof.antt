@@ -1,5 +1,5 @@
--- `foretold` is right: each arm arrives at the declared origin.
-use Rattle.document_loads.proofs.Framing.{foretold-fresh, foretold-none, foretold-container, foretold-src}
+-- `foretold` is right: each arm is a case of the declared origin.
+use Rattle.document_loads.proofs.Framing.{foretold-fresh, foretold-container, foretold-src, foretold-none}
 use borrow.Author.Needs.{needs}
 use Rattle.document_loads.proofs.foretold.Statement.{statement}
 use Rattle.document_loads.proofs.foretold.Tie as tie
@@ -11,12 +11,13 @@ foretold-spec =
     (λ c κs. search needs)
     (λ c κs. search needs)
     (λ c κs. search needs)
+    (λ c κs. search needs)
     (λ c. search needs)
     (λ c κs. search needs)
     (λ c. search needs)
-    (λ c. search needs)
     (λ c κs. search needs)
-    (λ c. search needs)
+    (λ c κs. search needs)
+    (λ c κs. search needs)
     (λ c κs. search needs)
     (λ c. search needs)
     (λ c κs. search needs)

@@ -1,4 +1,4 @@
--- `declared` is right: the bytes say what the header declares.
+-- `declared` is right: the settled bytes are asked.
 use Rattle.document_records.proofs.Deciding.{declared-answers}
 use borrow.Author.Needs.{needs}
 use Rattle.document_records.proofs.declared.Statement.{statement}
@@ -8,6 +8,6 @@ pub declared-spec : {M : Type 1} → statement M
 declared-spec =
     tie.close
     (tie.spec
-    (λ c. search needs)
+    (λ c κs. search needs)
     (λ c κs. search needs)
     (λ c. search declared-answers))

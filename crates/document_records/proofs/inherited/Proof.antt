@@ -1,22 +1,22 @@
 -- `inherited` is right: each feature inherits by its container policy, and the mask has a bit for each.
 use mathlib.Core.Path.{_≡_, refl}
 use Prim.Native.Nat.{_-_, _≤_}
-use lib.ListN.{length}
 use native.Mathlib.Omega.{arith}
+use lib.ListN.{length}
 use Rattle.features.specs.Features.{featureCount}
 use Rattle.origins.specs.Answers.{originIn}
 use Rattle.containers.specs.Sandboxes.{sandboxWords}
-use Rattle.document_records.specs.Records.{recordPolicy}
+use Rattle.document_records.specs.Slots.{slotPolicy}
 use Rattle.document_records.proofs.Inheriting.{Stored, none-stored, one-stored, inherited-is}
 use borrow.Author.Needs.{needs}
 use Rattle.document_records.proofs.inherited.Statement.{statement}
 use Rattle.document_records.proofs.inherited.Tie as tie
 
 abbrev Inv-loop : tie.InvT-loop
-Inv-loop c allow allowfullscreen stands sandbox declared t o policies all₀ i₀ all i = (i ≤ featureCount) × (length all ≡ featureCount) × Stored (recordPolicy c) allow allowfullscreen (sandboxWords stands sandbox) declared (originIn t o) i all
+Inv-loop slot allow allowfullscreen has-sandbox sandbox declared t o policies a all₀ i₀ all i = (i ≤ featureCount) × (length all ≡ featureCount) × Stored (slotPolicy slot) allow allowfullscreen (sandboxWords has-sandbox sandbox) declared (originIn t o) i all
 
 abbrev μ-loop : tie.MeasureT-loop
-μ-loop c allow allowfullscreen stands sandbox declared t o policies all₀ i₀ all i = featureCount - i
+μ-loop slot allow allowfullscreen has-sandbox sandbox declared t o policies a all₀ i₀ all i = featureCount - i
 
 pub inherited-spec : {M : Type 1} → statement M
 inherited-spec =
@@ -24,6 +24,7 @@ inherited-spec =
     (tie.spec
     Inv-loop
     μ-loop
+    (λ c κs. search needs)
     (λ c κs. search needs)
     (λ c. (omega arith, refl, none-stored _ _ _ _ _ _ _))
     (λ c. search needs)

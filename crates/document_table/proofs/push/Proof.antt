@@ -1,6 +1,5 @@
--- `push` is right: the places before the last are as they were.
-use native.Mathlib.Omega.{arith}
-use Rattle.document_table.proofs.Laws.{long, push-full, push-spent, push-deep, push-put}
+-- `push` is right: it is tested whether there is room.
+use Rattle.document_table.proofs.Writing.{room-count, room-last, pushed-on, pushed-off}
 use borrow.Author.Needs.{needs}
 use Rattle.document_table.proofs.push.Statement.{statement}
 use Rattle.document_table.proofs.push.Tie as tie
@@ -9,14 +8,11 @@ pub push-spec : {M : Type 1} → statement M
 push-spec =
     tie.close
     (tie.spec
-    (λ c. search push-full)
+    (λ c κs. search needs)
+    (λ c κs. search needs)
+    (λ c κs. search needs)
+    (λ c κs. (search needs, search room-count, search room-last))
     (λ c. search needs)
-    (λ c. search push-spent)
-    (λ c. search push-deep)
+    (λ c. search pushed-on)
     (λ c. search needs)
-    (λ c. search needs)
-    (λ c. search needs)
-    (λ c. search needs)
-    (λ c.
-    let h = c .before .before .before .before .before .before in
-    push-put (h .args .t) (h .args .d) (h .pre) (long (h .args .t) _ (h .good .0)) (omega arith) (omega arith) (omega arith)))
+    (λ c. search pushed-off))

@@ -1,16 +1,19 @@
--- `remove` is right: what stays of the first i documents has moved to the first k places, and the rest is looked at in the table as it was.
-use Prim.Native.Nat.{_≤_, _-_}
+-- `remove` is right: what stays of the first i entries has moved to the first k places, and the rest is as it was.
+use Rattle.lent_bytes.proofs.Laws.{same-long}
+use mathlib.Core.Path.{_≡_, _∙_}
+use Prim.Native.Nat.{_≤_, _<_, _-_}
 use native.Mathlib.Omega.{arith}
-use Rattle.document_table.proofs.Laws.{long, Sweeping, sweep, sweep-goes, sweep-stays, is-removed}
+use Rattle.document_table.specs.Layout.{countIn}
+use Rattle.document_table.proofs.Sweeping.{Sweeping, sweep, sweep-goes, sweep-stays, is-removed}
 use borrow.Author.Needs.{needs}
 use Rattle.document_table.proofs.remove.Statement.{statement}
 use Rattle.document_table.proofs.remove.Tie as tie
 
 abbrev Inv-loop : tie.InvT-loop
-Inv-loop t serial n u₀ i₀ k₀ u i k = (i ≤ n) × Sweeping t u serial i k
+Inv-loop run₀ serial n i₀ k₀ run i k = (i ≤ n) × (n ≡ countIn run₀) × Sweeping run₀ run serial i k
 
 abbrev μ-loop : tie.MeasureT-loop
-μ-loop t serial n u₀ i₀ k₀ u i k = n - i
+μ-loop run₀ serial n i₀ k₀ run i k = n - i
 
 pub remove-spec : {M : Type 1} → statement M
 remove-spec =
@@ -18,24 +21,19 @@ remove-spec =
     (tie.spec
     Inv-loop
     μ-loop
-    (λ c. (search needs, sweep (c .args .t) (c .args .serial) (long (c .args .t) _ (c .good .0))))
     (λ c κs. search needs)
-    (λ c κs. search needs)
+    (λ c. (omega arith, c .count .ensures, sweep _ _ (c .before .before .before .pre)))
+    (λ c κs. (c .before .before .loop .inv .2 .sound, omega (arith, c .before .before .loop .inv .1, c .before .before .loop .inv .2 .count)))
+    (λ c. search needs)
+    (λ c. omega arith)
+    (λ c. let lt : c .before .before .before .before .loop .i < c .before .before .before .before .before .count .result = omega arith in (omega arith, c .before .before .before .before .loop .inv .1, sweep-goes _ _ _ _ _ _ (c .before .before .before .before .loop .inv .1) lt _ (c .before .goes .ensures) (c .before .before .before .before .loop .inv .2) (c .if1 .taken)))
+    (λ c κs. (c .before .before .before .before .before .loop .inv .2 .sound .long, c .before .before .before .before .before .loop .inv .2 .within, omega (arith, c .before .before .before .before .before .loop .inv .1, c .before .before .before .before .before .loop .inv .2 .count, c .before .before .before .before .before .loop .inv .2 .sound .count)))
     (λ c. search needs)
     (λ c. search needs)
-    (λ c.
-    let h = c .before .before .before .before .before in
-    let r = c .before .before .before .document-at in
-    let b = c .before .is-beneath in
-    (search needs, sweep-goes (h .before .args .t) (h .loop .u) (h .before .args .serial) (h .loop .i) (h .loop .k) (h .loop .inv .1) (r .result) (b .result) (r .ensures .is (omega arith)) (b .ensures) (c .if1 .taken)))
-    (λ c. search needs)
-    (λ c. search needs)
-    (λ c. search needs)
-    (λ c. search needs)
-    (λ c. search needs)
-    (λ c.
-    let h = c .before .before .before .before .before in
-    let r = c .before .before .before .document-at in
-    let b = c .before .is-beneath in
-    (search needs, sweep-stays (h .before .args .t) (h .loop .u) (h .before .args .serial) (h .loop .i) (h .loop .k) (h .loop .inv .1) (r .result) (b .result) (r .ensures .is (omega arith)) (b .ensures) (c .if1 .left) (r .ensures .deep) (omega arith)))
-    (λ c. is-removed (c .before .before .args .t) (c .before .loop .u) (c .before .before .args .serial) (c .before .loop .i) (c .before .loop .k) (c .before .loop .inv .1) (omega arith) (c .before .before .pre .count)))
+    (λ c. omega arith)
+    (λ c. let lt : c .before .before .before .before .before .before .before .before .loop .i < c .before .before .before .before .before .before .before .before .before .count .result = omega arith in (omega arith, c .before .before .before .before .before .before .before .before .loop .inv .1, sweep-stays _ _ _ _ _ _ (c .before .before .before .before .before .before .before .before .loop .inv .1) lt _ (c .before .before .before .before .before .goes .ensures) (c .before .before .before .before .before .before .before .before .loop .inv .2) _ (c .before .before .before .before .if1 .left) (c .before .before .move-entry .ensures)))
+    (λ c κs. omega (arith, c .before .before .loop .inv .1, c .before .before .loop .inv .2 .within, c .before .before .loop .inv .2 .count, c .before .before .loop .inv .2 .sound .count))
+    (λ c κs. omega (arith, c .before .before .before .loop .inv .2 .sound .long))
+    (λ c. omega (arith, c .before .before .before .before .before .before .loop .inv .2 .within))
+    (λ c. same-long _ _ _ _ (c .before .before .put-number .ensures) ∙ c .before .before .before .before .before .before .loop .inv .2 .long)
+    (λ c. let low : c .before .before .before .before .before .before .loop .i ≤ c .before .before .before .before .before .before .before .count .result = omega arith in let high : c .before .before .before .before .before .before .before .count .result ≤ c .before .before .before .before .before .before .loop .i = omega arith in is-removed _ _ _ _ _ _ _ _ (c .before .before .before .before .before .before .loop .inv .1) low high (c .before .before .before .small .ensures) (c .before .before .before .before .before .before .loop .inv .2) (c .before .before .put-number .ensures)))

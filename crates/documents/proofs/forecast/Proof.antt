@@ -1,5 +1,6 @@
 -- `forecast` is right: each return is a row of the definition, in its order.
-use Rattle.documents.proofs.Forecasts.{forecast-allow, forecast-sandbox, forecast-origin, refused-forecast, answered-forecast}
+use Rattle.documents.proofs.Answering.{valid-ascends, found-below}
+use Rattle.documents.proofs.Forecasts.{forecast-allow, forecast-sandbox, forecast-origin, answered-forecast, refused-forecast}
 use borrow.Author.Needs.{needs}
 use Rattle.documents.proofs.forecast.Statement.{statement}
 use Rattle.documents.proofs.forecast.Tie as tie
@@ -13,9 +14,9 @@ forecast-spec =
     (λ c κs. search needs)
     (λ c κs. search needs)
     (λ c. search forecast-origin)
-    (λ c κs. search needs)
+    (λ c κs. (search needs, search valid-ascends))
     (λ c. search needs)
-    (λ c κs. search needs)
+    (λ c κs. (search needs, search found-below))
     (λ c κs. search needs)
     (λ c. search needs)
     (λ c. search answered-forecast)

@@ -1,4 +1,5 @@
 -- `frame_room` is right: each return is a row of the definition, in its order.
+use Rattle.documents.proofs.Answering.{valid-ascends, found-below}
 use Rattle.documents.proofs.FramedLoads.{frame-closed, frame-barred, frame-refused, frame-placed}
 use borrow.Author.Needs.{needs}
 use Rattle.documents.proofs.frame_room.Statement.{statement}
@@ -8,8 +9,9 @@ pub frame-room-spec : {M : Type 1} → statement M
 frame-room-spec =
     tie.close
     (tie.spec
-    (λ c κs. search needs)
+    (λ c κs. (search needs, search valid-ascends))
     (λ c. search needs)
+    (λ c κs. (search needs, search found-below))
     (λ c κs. search needs)
     (λ c κs. search needs)
     (λ c κs. search needs)

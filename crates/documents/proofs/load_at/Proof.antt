@@ -1,4 +1,4 @@
--- `load_at` is right: the record in the frame of the document there is put in.
+-- `load_at` is right: the document in the frame of the one there is written.
 use Rattle.documents.proofs.FramedLoads.{loads-at}
 use borrow.Author.Needs.{needs}
 use Rattle.documents.proofs.load_at.Statement.{statement}
@@ -9,6 +9,7 @@ load-at-spec =
     tie.close
     (tie.spec
     (λ c κs. search needs)
+    (λ c κs. c .slot .ensures .good)
     (λ c κs. search needs)
-    (λ c κs. search needs)
-    (λ c. search loads-at))
+    (λ c. search needs)
+    (λ c. loads-at _ (c .before .before .before .before .before .before .before .before .before .before .before .before .before .args .p) _ _ _ _ (c .before .before .before .before .before .before .before .before .before .before .before .before .before .args .marks) _ _ _ (c .before .before .before .before .framed-document .result) _ (c .before .before .place .result) (c .before .before .before .before .before .slot .ensures) (c .before .before .before .before .framed-document .ensures) (c .before .before .place .ensures)))

@@ -1,5 +1,5 @@
 -- `load_framed` is right: it is refused, or goes to its place.
-use Rattle.documents.proofs.FramedLoads.{framed-refused, framed-place, framed-accepted}
+use Rattle.documents.proofs.FramedLoads.{framed-refused, framed-place, framed-short, framed-accepted}
 use borrow.Author.Needs.{needs}
 use Rattle.documents.proofs.load_framed.Statement.{statement}
 use Rattle.documents.proofs.load_framed.Tie as tie
@@ -13,6 +13,8 @@ load-framed-spec =
     (λ c κs. search needs)
     (λ c. search needs)
     (λ c. search needs)
-    (λ c κs. search framed-place)
+    (λ c κs. (search framed-place, search framed-short))
+    (λ c. search needs)
     (λ c. search framed-refused)
+    (λ c. search needs)
     (λ c. search framed-accepted))

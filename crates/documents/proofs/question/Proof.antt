@@ -1,5 +1,5 @@
 -- `question` is right: each return is a row of the definition, in its order.
-use Rattle.documents.proofs.Answering.{refused-bad, refused-feature, refused-question, answered-question}
+use Rattle.documents.proofs.Answering.{valid-ascends, found-below, refused-bad, refused-feature, refused-question, answered-question}
 use borrow.Author.Needs.{needs}
 use Rattle.documents.proofs.question.Statement.{statement}
 use Rattle.documents.proofs.question.Tie as tie
@@ -13,9 +13,9 @@ question-spec =
     (λ c. search refused-bad)
     (λ c. search needs)
     (λ c. search refused-feature)
-    (λ c κs. search needs)
+    (λ c κs. (search needs, search valid-ascends))
     (λ c. search needs)
-    (λ c κs. search needs)
+    (λ c κs. (search needs, search found-below))
     (λ c κs. search needs)
     (λ c κs. search needs)
     (λ c. search needs)

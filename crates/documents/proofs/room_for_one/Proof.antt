@@ -8,8 +8,9 @@ pub room-for-one-spec : {M : Type 1} → statement M
 room-for-one-spec =
     tie.close
     (tie.spec
+    (λ c κs. search needs)
     (λ c. search room-full)
-    (λ c. search needs)
+    (λ c κs. search needs)
     (λ c. search room-spent)
     (λ c. search needs)
     (λ c. search room-serial))

@@ -28,11 +28,6 @@ store-spec =
     (λ c. search needs)
     (λ c. search needs)
     (λ c. omega arith)
-    (λ c.
-    let h = c .before in
-    let a = h .before .args in
-    let le : a .n ≤ length (a .t2) = search needs in
-    let lt : h .loop .i < a .n = omega arith in
-    (omega arith, search needs, stored-on (a .t2) (a .run .now) (h .loop .run) (a .n) (h .loop .i) 0 le (h .before .pre .1) lt (h .loop .inv .2)))
+    (λ c. let h = c .before in let a = h .before .args in let le : a .n ≤ length (a .t2) = search needs in let lt : h .loop .i < a .n = omega arith in (omega arith, search needs, stored-on (a .t2) (a .run .now) (h .loop .run) (a .n) (h .loop .i) 0 le (h .before .pre .1) lt (h .loop .inv .2)))
     (λ c. search needs)
     (λ c. search stored-end))

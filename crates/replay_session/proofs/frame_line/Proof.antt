@@ -1,4 +1,4 @@
--- `frame_line` is right: the load is of the line's texts.
+-- `frame_line` is right: a load with the line's texts.
 use Rattle.replay_session.proofs.Answering.{makes-frame}
 use borrow.Author.Needs.{needs}
 use Rattle.replay_session.proofs.frame_line.Statement.{statement}
@@ -15,5 +15,6 @@ frame-line-spec =
     (λ c κs. search needs)
     (λ c κs. search needs)
     (λ c κs. search needs)
+    (λ c. search needs)
     (λ c. search needs)
     (λ c. search makes-frame))

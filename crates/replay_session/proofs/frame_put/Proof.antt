@@ -11,4 +11,5 @@ frame-put-spec =
     (λ c κs. search needs)
     (λ c κs. search needs)
     (λ c. search needs)
+    (λ c. search needs)
     (λ c. search makes-load))

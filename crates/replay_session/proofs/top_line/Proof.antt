@@ -1,4 +1,4 @@
--- `top_line` is right: the load is of the line's texts, and its answer is put.
+-- `top_line` is right: a load with the line's texts.
 use Rattle.replay_session.proofs.Answering.{makes-top}
 use borrow.Author.Needs.{needs}
 use Rattle.replay_session.proofs.top_line.Statement.{statement}
@@ -12,5 +12,6 @@ top-line-spec =
     (λ c κs. search needs)
     (λ c κs. search needs)
     (λ c κs. search needs)
+    (λ c. search needs)
     (λ c. search needs)
     (λ c. search makes-top))

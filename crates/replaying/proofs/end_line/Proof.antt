@@ -13,6 +13,8 @@ end-line-spec =
     (λ c κs. search needs)
     (λ c κs. search needs)
     (λ c κs. search needs)
+    (λ c. search needs)
     (λ c. search next-waits)
     (λ c κs. search needs)
+    (λ c. search needs)
     (λ c. search next-written))

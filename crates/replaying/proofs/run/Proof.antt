@@ -1,43 +1,20 @@
--- `run` is right: each read takes one from the reads that are left, and between two lines the session is ready for the next.
-use mathlib.Core.Path.{_≡_}
-use lib.ListN.{length}
-use Rattle.replaying.specs.Sessions.{Ready}
+-- `run` is right: the session starts on a new table.
+use Rattle.replaying.proofs.Rooms.{made-valid, replayed-ready, replayed-refused}
 use borrow.Author.Needs.{needs}
 use Rattle.replaying.proofs.run.Statement.{statement}
 use Rattle.replaying.proofs.run.Tie as tie
-
-abbrev Inv-loop : tie.InvT-loop
-Inv-loop input₀ texts₀ out₀ s₀ left₀ t10 input texts out s left = Ready s × (length input ≡ 4096)
-
-abbrev μ-loop : tie.MeasureT-loop
-μ-loop input₀ texts₀ out₀ s₀ left₀ t10 input texts out s left = left
 
 pub run-spec : {M : Type 1} → statement M
 run-spec =
     tie.close
     (tie.spec
-    Inv-loop
-    μ-loop
     (λ c κs. search needs)
-    (λ c κs. search needs)
-    (λ c κs. search needs)
+    (λ c. search needs)
+    (λ c κs. search made-valid)
     (λ c. search needs)
     (λ c. search needs)
     (λ c κs. search needs)
     (λ c. search needs)
-    (λ c κs. search needs)
+    (λ c. search replayed-ready)
     (λ c. search needs)
-    (λ c. search needs)
-    (λ c. search needs)
-    (λ c κs. search needs)
-    (λ c. search needs)
-    (λ c. search needs)
-    (λ c. search needs)
-    (λ c. search needs)
-    (λ c κs. search needs)
-    (λ c. search needs)
-    (λ c. search needs)
-    (λ c. search needs)
-    (λ c. search needs)
-    (λ c κs. search needs)
-    (λ c. search needs))
+    (λ c. search replayed-refused))

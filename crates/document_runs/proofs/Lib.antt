@@ -1,0 +1,5 @@
+pub mod Runs
+pub mod Removals
+pub mod Keeping
+pub mod Existence
+pub mod Claims

@@ -1,0 +1,1 @@
+// Lists of calls in code, and the claims of them: definitions and proofs, no code.
