@@ -1,4 +1,5 @@
-// Reads the manual's session on standard input, and writes its answers on standard output.
+// Reads a session in the replay format on standard input, and writes its answers on standard output.
 fn main() {
-    replaying::run();
+    let mut table = [0u8; document_table::TABLE_BYTES];
+    replaying::run(&mut table);
 }

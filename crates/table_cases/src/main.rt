@@ -1,16 +1,20 @@
-// Document 01's cases about frames and the table that the replay format has no line for, over the library's calls: a sandbox text without a sandbox attribute,
-// the lent run of a listing place by place, and the table after a refusal.
+// Document 01's cases about frames and the table that the replay format has no line for, and those of 02's R-4 about lent memory, over the library's calls: a sandbox text
+// without a sandbox attribute, the lent run of a listing place by place, the table after a refusal, and a new table in runs of several lengths, whatever bytes stand in them.
 ghost use Rattle.documents.specs.Answers.{Valid};
 use document_loads::FrameMarks;
-use document_table::Table;
+use document_table::TABLE_BYTES;
 use documents::FeaturesAnswer;
 use documents::ListingAnswer;
 use documents::LoadAnswer;
+use documents::NewAnswer;
 use documents::UnloadAnswer;
 
 const STDOUT: i32 = 1;
 
 const OUT: usize = 2048;
+
+// 02, R-4: "4 MiB never is" too short.
+const MEMORY: usize = 4_194_304;
 
 // Writes a case's name and its answer, a line.
 fn tell(name: &[u8], answer: &[u8]) {
@@ -48,16 +52,16 @@ fn tell_listing(name: &[u8], a: ListingAnswer, run: &[u32]) {
 }
 
 // A frame of the first document, with marks and a sandbox text, arriving where its src points.
-fn frame(name: &[u8], t: Table, has_sandbox: bool, sandbox: &[u8]) -> Table
-    requires { ⌜ Valid t ⌝ }
-    ensures { λ r. ⌜ Valid r ⌝ }
+fn frame(name: &[u8], run: &mut [u8], has_sandbox: bool, sandbox: &[u8])
+    requires { ⌜ Valid (now run) ⌝ }
+    ensures { λ _. ⌜ Valid (now (run .exit)) ⌝ }
 {
     let marks = FrameMarks {
         allowfullscreen: false,
         has_sandbox,
     };
-    let r = documents::load_framed(
-        t,
+    let a = documents::load_framed(
+        run,
         1,
         b"https://b.example",
         b"https://b.example",
@@ -66,87 +70,242 @@ fn frame(name: &[u8], t: Table, has_sandbox: bool, sandbox: &[u8]) -> Table
         sandbox,
         b"",
     );
-    let a = r.answer;
     tell_load(name, a);
-    r.table
 }
 
-fn foretell(name: &[u8], t: Table, has_sandbox: bool, sandbox: &[u8])
-    requires { ⌜ Valid t ⌝ }
+fn foretell(name: &[u8], run: &[u8], has_sandbox: bool, sandbox: &[u8])
+    requires { ⌜ Valid (now run) ⌝ }
 {
     let marks = FrameMarks {
         allowfullscreen: false,
         has_sandbox,
     };
-    let a = documents::forecast(t, 1, b"https://b.example", marks, b"", sandbox);
+    let a = documents::forecast(run, 1, b"https://b.example", marks, b"", sandbox);
     tell_features(name, a);
 }
 
 // A listing of what is beneath the first document, into a run of sevens.
-fn list(name: &[u8], t: Table, run: &mut [u32])
-    requires { ⌜ Valid t ⌝ }
+fn list(name: &[u8], run: &[u8], out: &mut [u32])
+    requires { ⌜ Valid (now run) ⌝ }
 {
-    let a = documents::list_beneath(t, 1, run);
-    tell_listing(name, a, run);
+    let a = documents::list_beneath(run, 1, out);
+    tell_listing(name, a, out);
 }
 
-fn main() {
-    let long = [b'a'; 1025];
-    let t = documents::new_table();
-    let r = documents::load_top(t, b"https://a.example", b"");
-    let a = r.answer;
-    tell_load(b"a document at the top", a);
-    let one = r.table;
-    let two = frame(
-        b"mark clear, sandbox text of 1,025 bytes",
-        one,
+fn frames(run: &mut [u8])
+    requires { ⌜ Valid (now run) ⌝ }
+    ensures { λ _. ⌜ Valid (now (run .exit)) ⌝ }
+{
+    let long = [b'a'; 4097];
+    tell_load(
+        b"a document at the top",
+        documents::load_top(run, b"https://a.example", b""),
+    );
+    frame(
+        b"mark clear, sandbox text of 4,097 bytes",
+        run,
         false,
         &long,
     );
-    foretell(b"its forecast", two, false, &long);
-    let three = frame(
-        b"mark clear, sandbox text of 1,024 bytes",
-        two,
+    foretell(b"its forecast", run, false, &long);
+}
+
+fn clear_frames(run: &mut [u8])
+    requires { ⌜ Valid (now run) ⌝ }
+    ensures { λ _. ⌜ Valid (now (run .exit)) ⌝ }
+{
+    let long = [b'a'; 4097];
+    frame(
+        b"mark clear, sandbox text of 4,096 bytes",
+        run,
         false,
-        &long[..1024],
+        &long[..4096],
     );
-    foretell(b"its forecast", three, false, &long[..1024]);
+    foretell(b"its forecast", run, false, &long[..4096]);
     foretell(
         b"mark clear, `allow-forms` not read: its forecast",
-        three,
+        run,
         false,
         b"allow-forms",
     );
     foretell(
         b"mark set, `allow-forms`: its forecast",
-        three,
+        run,
         true,
         b"allow-forms",
     );
-    let four = frame(b"mark set, sandbox text of 1,025 bytes", three, true, &long);
-    let five = frame(
-        b"mark set, sandbox text of 1,024 bytes",
-        four,
+}
+
+fn more_frames(run: &mut [u8])
+    requires { ⌜ Valid (now run) ⌝ }
+    ensures { λ _. ⌜ Valid (now (run .exit)) ⌝ }
+{
+    let long = [b'a'; 4097];
+    frame(b"mark set, sandbox text of 4,097 bytes", run, true, &long);
+    foretell(b"its forecast", run, true, &long);
+    frame(
+        b"mark set, sandbox text of 4,096 bytes",
+        run,
         true,
-        &long[..1024],
+        &long[..4096],
     );
-    let six = frame(
+    foretell(b"its forecast", run, true, &long[..4096]);
+    frame(
         b"mark clear, `allow-same-origin` not read",
-        five,
+        run,
         false,
         b"allow-same-origin",
     );
-    tell_features(b"its features", documents::enabled_features(six, 3));
+}
+
+fn listings(run: &mut [u8])
+    requires { ⌜ Valid (now run) ⌝ }
+    ensures { λ _. ⌜ Valid (now (run .exit)) ⌝ }
+{
+    tell_features(b"its features", documents::enabled_features(run, 3));
     let mut short = [7u32; 1];
-    list(b"a listing of two in one place", six, &mut short);
+    list(b"a listing of two in one place", run, &mut short);
     let mut enough = [7u32; 2];
-    list(b"in two places", six, &mut enough);
+    list(b"in two places", run, &mut enough);
     let mut more = [7u32; 4];
-    list(b"in four places", six, &mut more);
-    let u = documents::unload(six, 9);
-    let b = u.answer;
-    tell_unload(b"an unload of a serial to come", b);
-    let seven = u.table;
+    list(b"in four places", run, &mut more);
+    tell_unload(b"an unload of a serial to come", documents::unload(run, 9));
     let mut again = [7u32; 4];
-    list(b"the listing after it", seven, &mut again);
+    list(b"the listing after it", run, &mut again);
+}
+
+// A sandbox text of 4,096 bytes whose last word is a keyword, and one byte more.
+fn last_keyword(run: &[u8])
+    requires { ⌜ Valid (now run) ⌝ }
+{
+    let mut text = [b' '; 4097];
+    writing::put(&mut text, 4085, b"allow-forms");
+    let enough = ascii::part(&text, 0, 4096);
+    foretell(
+        b"mark clear, 4,096 bytes that end in `allow-forms`: its forecast",
+        run,
+        false,
+        enough,
+    );
+    foretell(b"mark set: its forecast", run, true, enough);
+    foretell(
+        b"mark clear, one byte more: its forecast",
+        run,
+        false,
+        &text,
+    );
+    foretell(b"mark set, one byte more: its forecast", run, true, &text);
+}
+
+// The same with the word that lifts the sandbox.
+fn last_word(run: &mut [u8])
+    requires { ⌜ Valid (now run) ⌝ }
+    ensures { λ _. ⌜ Valid (now (run .exit)) ⌝ }
+{
+    let mut text = [b' '; 4097];
+    writing::put(&mut text, 4079, b"allow-same-origin");
+    frame(
+        b"mark set, 4,096 bytes that end in `allow-same-origin`",
+        run,
+        true,
+        ascii::part(&text, 0, 4096),
+    );
+    frame(b"one byte more", run, true, &text);
+    tell_features(b"its features", documents::enabled_features(run, 4));
+}
+
+// A new table in a lent run, and the cases on it.
+fn session(name: &[u8], run: &mut [u8]) {
+    match documents::new_table(run) {
+        NewAnswer::Ready => {
+            tell(name, b"ready");
+            frames(run);
+            clear_frames(run);
+            more_frames(run);
+            listings(run);
+            last_keyword(run);
+            last_word(run);
+        }
+        NewAnswer::Refused(n) => tell_load(name, LoadAnswer::Refused(n)),
+    }
+}
+
+// Every byte of a run becomes the same one.
+fn fill(run: &mut [u8], b: u8) {
+    let mut i: usize = 0;
+    while i < run.len() {
+        run[i] = b;
+        i += 1;
+    }
+}
+
+// Whether every byte of a run is that one.
+fn is_full(run: &[u8], b: u8) -> bool {
+    let mut i: usize = 0;
+    while i < run.len() {
+        if run[i] != b {
+            return false;
+        }
+        i += 1;
+    }
+    true
+}
+
+fn tell_bytes(name: &[u8], run: &[u8], b: u8) {
+    if is_full(run, b) {
+        tell(name, b"unchanged");
+    } else {
+        tell(name, b"changed");
+    }
+}
+
+// The same in so many of the bytes of a run.
+fn session_in(name: &[u8], memory: &mut [u8], n: usize) {
+    if memory.len() < n {
+        return;
+    }
+    session(name, &mut memory[..n]);
+}
+
+// Whether the bytes of a run past a table are that one.
+fn tell_past(memory: &[u8], b: u8) {
+    tell_bytes(
+        b"the memory past it",
+        ascii::part(memory, TABLE_BYTES, memory.len()),
+        b,
+    );
+}
+
+// "a new table in too short a run .. is refused with 9", and a refusal changes nothing.
+fn short_runs(memory: &mut [u8]) {
+    session_in(b"a new table in no bytes", memory, 0);
+    session_in(b"a new table in sixteen bytes", memory, 16);
+    session_in(b"a new table in one byte too few", memory, TABLE_BYTES - 1);
+    tell_bytes(b"the memory", memory, 255);
+}
+
+// The same answers in a run of bytes 255 that is just long enough, over what that table left, and over zeros; the bytes past a table stay as they are.
+fn long_runs(memory: &mut [u8]) {
+    session_in(
+        b"a new table in just enough bytes, all of them 255",
+        memory,
+        TABLE_BYTES,
+    );
+    tell_past(memory, 255);
+    session(b"a new table in 4 MiB, over the last one", memory);
+    tell_past(memory, 255);
+    fill(memory, 0);
+    session(b"a new table in 4 MiB of zeros", memory);
+    tell_past(memory, 0);
+}
+
+// All the sessions, in one memory.
+fn sessions(memory: &mut [u8; MEMORY]) {
+    short_runs(memory);
+    long_runs(memory);
+}
+
+fn main() {
+    let mut memory = [255u8; MEMORY];
+    sessions(&mut memory);
 }

@@ -1,4 +1,4 @@
-// Document 01's cases about tidying, and one of 02's R-3, over the library's call: the limits, the order of the refusals, and every lent byte.
+// Document 01's cases about tidying, with 02's R-4, and one of R-3, over the library's call: the limits, the order of the refusals, and every lent byte.
 ghost use Prim.Native.Nat.{_<_};
 use tidying::TidyAnswer;
 
@@ -79,7 +79,7 @@ fn tidy_into(name: &[u8], header: &[u8], run: &mut [u8]) {
 
 // With a run that is long enough for every tidied form.
 fn tidy_wide(name: &[u8], header: &[u8]) {
-    let mut run = [OLD; 1100];
+    let mut run = [OLD; 4200];
     tidy_into(name, header, &mut run);
 }
 
@@ -96,7 +96,7 @@ fn short_runs() {
 
 // `camera=*` and spaces, so many bytes in all.
 fn spaces(name: &[u8], length: usize) {
-    let mut buf = [b' '; 1100];
+    let mut buf = [b' '; 4200];
     push(&mut buf, 0, b"camera=*");
     tidy_wide(name, ascii::part(&buf, 0, length));
 }
@@ -117,32 +117,67 @@ fn push_pair(buf: &mut [u8], at: usize, letter: u8, first: usize, second: usize)
     push_expression(buf, b, letter + 1, second)
 }
 
-// The third and the fourth expression.
+// Adds four expressions with the longest hosts, of four letters, and a space behind each pair.
+fn push_four(buf: &mut [u8], at: usize, letter: u8) -> usize
+    requires { ⌜ letter < 253 ⌝ }
+{
+    let a = push_pair(buf, at, letter, 253, 253);
+    let b = push(buf, a, b" ");
+    let c = push_pair(buf, b, letter + 2, 253, 253);
+    push(buf, c, b" ")
+}
+
+// Adds `camera=(` and twelve expressions: 8 + 12 * 264 bytes.
+fn push_twelve(buf: &mut [u8]) -> usize {
+    let a = push(buf, 0, b"camera=(");
+    let b = push_four(buf, a, b'a');
+    let c = push_four(buf, b, b'e');
+    push_four(buf, c, b'i')
+}
+
+// The last two expressions.
 fn push_rest(buf: &mut [u8], at: usize, others: usize) -> usize {
     let a = push(buf, at, b" ");
-    let b = push_pair(buf, a, b'c', others, others);
+    let b = push_pair(buf, a, b'o', others, others);
     push(buf, b, b")")
 }
 
-// camera with four expressions, the first with a host of so many bytes and the others with hosts of so many.
+// camera with sixteen expressions, the thirteenth with a host of so many bytes and those after it with hosts of so many: 3,176 + 43 + 1 bytes and these.
 fn push_camera(buf: &mut [u8], first: usize, others: usize) -> usize {
-    let a = push(buf, 0, b"camera=(");
-    let b = push_pair(buf, a, b'a', first, others);
+    let a = push_twelve(buf);
+    let b = push_pair(buf, a, b'm', first, others);
     push_rest(buf, b, others)
 }
 
-fn long_forms() {
-    let mut one = [0u8; 1100];
-    let n = push_camera(&mut one, 243, 243);
-    tidy_wide(b"a form of 1024", ascii::part(&one, 0, n));
-    let mut two = [0u8; 1100];
-    let m = push_camera(&mut two, 243, 241);
-    let k = push(&mut two, m, b",usb=*");
-    tidy_wide(b"a form of 1025", ascii::part(&two, 0, k));
+// 02, R-4: 4,096 bytes for a tidied form. Here it is the header itself, into runs of several lengths.
+fn longest_form() {
+    let mut buf = [0u8; 4200];
+    let n = push_camera(&mut buf, 219, 219);
+    tidy_wide(b"a form of 4096", ascii::part(&buf, 0, n));
+    let mut short = [OLD; 4095];
+    tidy_into(
+        b"a form of 4096 into a run of 4095",
+        ascii::part(&buf, 0, n),
+        &mut short,
+    );
+    let mut enough = [OLD; 4096];
+    tidy_into(
+        b"a form of 4096 into a run of 4096",
+        ascii::part(&buf, 0, n),
+        &mut enough,
+    );
+}
+
+// A header of 4,096 bytes whose form has a space more.
+fn longer_form() {
+    let mut buf = [0u8; 4200];
+    let n = push_camera(&mut buf, 219, 217);
+    let k = push(&mut buf, n, b",usb=*");
+    tidy_wide(b"a form of 4097", ascii::part(&buf, 0, k));
     let mut none = [OLD; 0];
     tidy_into(
-        b"a form of 1025 into a run of 0",
-        ascii::part(&two, 0, k),
+        b"a form of 4097 into a run of 0",
+        ascii::part(&buf, 0, k),
         &mut none,
     );
 }
@@ -163,8 +198,9 @@ fn main() {
         b"ports of both schemes",
         b"camera=(\"http://A:0080\" \"http://a\" \"http://a:80\" \"https://a:443\" \"https://a\")",
     );
-    spaces(b"1024 bytes", 1024);
-    spaces(b"1025 bytes", 1025);
+    spaces(b"4096 bytes", 4096);
+    spaces(b"4097 bytes", 4097);
     short_runs();
-    long_forms();
+    longest_form();
+    longer_form();
 }
