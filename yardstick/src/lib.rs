@@ -1,5 +1,5 @@
 //! A permissions-policy engine written from the papers alone (document 01 and
-//! requests of 02), in plain Rust.
+//! requests of 02), in plain Rust.
 //!
 //! Texts are read once, when a document is loaded; a question only looks at
 //! what was settled then.

@@ -1,16 +1,18 @@
 //! Every limit of document 01 (and of RFC 8941's numbers), each in one place.
+//! R-4: "Raise to 64 documents and to 4,096 bytes for header, allow, sandbox
+//! and tidied form."
 
-/// "header, allow or sandbox text over 1,024" is refused.
-pub const MAX_TEXT_BYTES: usize = 1024;
+/// A header, allow or sandbox text of more bytes is refused.
+pub const MAX_TEXT_BYTES: usize = 4096;
 
-/// "or a tidied form over 1,024" is refused.
-pub const MAX_TIDIED_BYTES: usize = 1024;
+/// A tidied form of more bytes is refused.
+pub const MAX_TIDIED_BYTES: usize = 4096;
 
 /// "A host is 1 to 253 bytes".
 pub const MAX_HOST_BYTES: usize = 253;
 
-/// "At most 16 documents".
-pub const MAX_DOCUMENTS: usize = 16;
+/// A load, while so many documents are loaded, is refused.
+pub const MAX_DOCUMENTS: usize = 64;
 
 /// "a load, after serial 4,294,967,295 was given" is refused.
 pub const LAST_SERIAL: u32 = 4_294_967_295;

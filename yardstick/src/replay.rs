@@ -2,7 +2,7 @@
 
 use std::io::{self, BufRead, Write};
 
-use crate::limits::{MAX_DOCUMENTS, MAX_TIDIED_BYTES};
+use crate::limits::{MAX_DOCUMENTS, MAX_TEXT_BYTES, MAX_TIDIED_BYTES};
 use crate::refusal::Refusal;
 use crate::table::{Decision, Frame, Loaded, Table};
 use crate::tidy::tidy;
@@ -233,7 +233,9 @@ fn number(field: &[u8]) -> Option<u32> {
     Some(value)
 }
 
-/// "`%` and two hex digits (either case) stand for that byte"
+/// "`%` and two hex digits (either case) stand for that byte"; "at most one byte
+/// more than the limit is kept". That is enough to see a text too long, and no
+/// origin text comes near it.
 fn text(field: &[u8]) -> Option<Vec<u8>> {
     let mut decoded = Vec::with_capacity(field.len());
     let mut bytes = field.iter();
@@ -246,6 +248,7 @@ fn text(field: &[u8]) -> Option<Vec<u8>> {
             decoded.push(byte);
         }
     }
+    decoded.truncate(MAX_TEXT_BYTES + 1);
     Some(decoded)
 }
 
@@ -377,10 +380,58 @@ ask\t1\t0\t";
 
     #[test]
     fn long_texts_are_refused_not_bad() {
-        let long = "x".repeat(5000);
-        assert_eq!(answers(format!("top\tx\t{long}").as_bytes()), ["refused 4"]);
-        assert_eq!(answers(format!("top\t{long}\t").as_bytes()), ["refused 3"]);
-        assert_eq!(answers(format!("top\t\t{long}%x").as_bytes()), ["bad line"]);
+        for length in [4097, 5000, 5_000_000] {
+            let long = "x".repeat(length);
+            assert_eq!(answers(format!("top\tx\t{long}").as_bytes()), ["refused 4"]);
+            assert_eq!(answers(format!("top\t{long}\t").as_bytes()), ["refused 3"]);
+            assert_eq!(answers(format!("top\t\t{long}%x").as_bytes()), ["bad line"]);
+        }
         assert_eq!(answers(b"tidy\t4294967295\tcamera=*"), ["tidied camera=*"]);
+    }
+
+    /// The limit is of the bytes that are meant, not of those that are written.
+    #[test]
+    fn texts_at_the_limit() {
+        for byte in ["x", "%78"] {
+            let [most, over] = [4096, 4097].map(|length| byte.repeat(length));
+            let line = |length: &str, place: usize| {
+                let text = |here: usize| if here == place { length } else { "" };
+                let [header, allow, sandbox] = [text(0), text(1), text(2)];
+                format!(
+                    "top\tnull\t{}\nframe\t1\tnull\t\t0\t{allow}\t1{sandbox}\t{header}\n\
+                     forecast\t1\t\t0\t{allow}\t1{sandbox}\ntidy\t0\t{header}",
+                    text(3)
+                )
+            };
+            for place in 0..4 {
+                let wanted = ["loaded 1", "loaded 2", "features 0", "tidied "];
+                assert_eq!(answers(line(&most, place).as_bytes()), wanted);
+                let long = "refused 4";
+                let wanted = match place {
+                    0 => ["loaded 1", long, "features 0", long],
+                    1 | 2 => ["loaded 1", long, long, "tidied "],
+                    _ => [long, "refused 1", "refused 1", "tidied "],
+                };
+                assert_eq!(answers(line(&over, place).as_bytes()), wanted);
+            }
+        }
+    }
+
+    /// "ROOM may be any number".
+    #[test]
+    fn lent_runs() {
+        let mut lines: Vec<String> = vec!["top\tnull\t".to_string()];
+        lines.extend((0..63).map(|_| "frame\t1\tnull\t\t0\t\t0\t".to_string()));
+        let rooms = [0, 1, 16, 62, 63, 64, 65, 4096, u32::MAX];
+        lines.extend(rooms.iter().map(|room| format!("beneath\t1\t{room}")));
+        let serials: Vec<String> = (2..=64).map(|serial| serial.to_string()).collect();
+        let listing = format!("beneath 63 {}", serials.join(" "));
+        for (room, answer) in rooms
+            .iter()
+            .zip(&answers(lines.join("\n").as_bytes())[64..])
+        {
+            let wanted = if *room < 63 { "refused 9" } else { &listing };
+            assert_eq!(answer, wanted, "{room}");
+        }
     }
 }

@@ -69,7 +69,7 @@ mod tests {
     use super::*;
 
     fn tidied(header: &str) -> Result<String, Refusal> {
-        let mut lent = [0xee; 2000];
+        let mut lent = [0xee; 5000];
         let length = tidy(header.as_bytes(), &mut lent)?;
         assert!(lent[length..].iter().all(|&b| b == 0xee));
         Ok(String::from_utf8(lent[..length].to_vec()).expect("ascii"))
@@ -146,42 +146,57 @@ mod tests {
         );
     }
 
+    /// A header whose tidied form has so many bytes: two features with sixteen
+    /// expressions, the second written without brackets. Tidying adds those and
+    /// a space.
+    fn header_tidied_to(length: usize) -> String {
+        let host = |index: usize, bytes: usize| format!("{index:02}{}", "a".repeat(bytes - 2));
+        let list: Vec<String> = (0..15)
+            .map(|index| format!("\"https://{}\"", host(index, 250)))
+            .collect();
+        let start = format!("camera=({}),forms=", list.join(" "));
+        let tidied = start.len() + 1 + "(\"https://\")".len();
+        let header = format!("{start}\"https://{}\"", host(15, length - tidied));
+        assert_eq!(header.len(), length - 3);
+        header
+    }
+
     #[test]
     fn refusals_in_order() {
-        let long = "x".repeat(1025);
+        let long = "x".repeat(4097);
         assert_eq!(tidied(&long), Err(Refusal::TooLong));
         assert_eq!(tidied(&long[1..]).as_deref(), Ok(""));
         assert_eq!(tidied("X"), Err(Refusal::NotADictionary));
         assert_eq!(tidy(b"X", &mut []), Err(Refusal::NotADictionary));
+        // 4 for the input before 8, and 8 before 9.
+        let malformed = "X".repeat(4097);
+        assert_eq!(tidied(&malformed), Err(Refusal::TooLong));
+        assert_eq!(tidied(&malformed[1..]), Err(Refusal::NotADictionary));
+        assert_eq!(
+            tidy(&malformed.as_bytes()[1..], &mut []),
+            Err(Refusal::NotADictionary)
+        );
 
-        // Tidying adds brackets and spaces.
-        let header = |extra: usize| {
-            let hosts: Vec<String> = (0..4)
-                .map(|i| format!("{i}{}", "a".repeat(234 + if i == 3 { extra } else { 0 })))
-                .collect();
-            let list = |i: usize| format!("\"https://{}\"", hosts[i]);
-            format!(
-                "camera={},forms={},payment=({} {})",
-                list(0),
-                list(1),
-                list(2),
-                list(3)
-            )
-        };
-        let empty = tidied(&header(0)).expect("short enough").len();
-        let exact = 1024 - empty;
-        assert!(header(exact + 1).len() <= 1024);
-        assert_eq!(tidied(&header(exact)).map(|t| t.len()), Ok(1024));
-        assert_eq!(tidied(&header(exact + 1)), Err(Refusal::TooLong));
+        let [under, exact, over] = [4095, 4096, 4097].map(header_tidied_to);
+        assert_eq!(tidied(&under).map(|t| t.len()), Ok(4095));
+        assert_eq!(tidied(&exact).map(|t| t.len()), Ok(4096));
+        assert_eq!(tidied(&over), Err(Refusal::TooLong));
+        // A form of the most bytes, read again, is tidied to itself.
+        let form = tidied(&exact).expect("short enough");
+        assert_eq!(tidied(&form).as_deref(), Ok(form.as_str()));
+        // The header that fits, with a form that doesn't.
+        let most = header_tidied_to(4099);
+        assert_eq!(most.len(), 4096);
+        assert_eq!(tidied(&most), Err(Refusal::TooLong));
         // 4 for output before 9.
-        assert_eq!(
-            tidy(header(exact + 1).as_bytes(), &mut []),
-            Err(Refusal::TooLong)
-        );
-        assert_eq!(
-            tidy(header(exact).as_bytes(), &mut [0; 1023]),
-            Err(Refusal::Small)
-        );
+        assert_eq!(tidy(over.as_bytes(), &mut []), Err(Refusal::TooLong));
+        assert_eq!(tidy(exact.as_bytes(), &mut [0; 4095]), Err(Refusal::Small));
+        assert_eq!(tidy(exact.as_bytes(), &mut [0; 4096]), Ok(4096));
+        // What was too long before is read and written now.
+        for length in [3950, 4000] {
+            let form = tidied(&header_tidied_to(length));
+            assert_eq!(form.map(|t| t.len()), Ok(length));
+        }
     }
 
     #[test]

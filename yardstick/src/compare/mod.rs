@@ -6,6 +6,7 @@ pub mod random;
 pub mod schemes;
 pub mod session;
 pub mod shrink;
+pub mod sizes;
 pub mod tally;
 pub mod texts;
 

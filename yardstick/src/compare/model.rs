@@ -5,6 +5,7 @@ use crate::attributes::{container_policy, features_by_keyword, sandboxes, Contai
 use crate::expressions::SourceExpression;
 use crate::features::FEATURE_COUNT;
 use crate::header::DeclaredPolicy;
+use crate::limits::MAX_DOCUMENTS;
 use crate::origins::{Origin, OriginText};
 use crate::replay::{self, Call, FrameFields};
 
@@ -78,6 +79,10 @@ pub struct Model {
     pub live: Vec<Known>,
     pub closed: Vec<u32>,
     pub last_serial: u32,
+    /// Whether the table was full once.
+    pub was_full: bool,
+    /// Whether the last change was an unload from a full table.
+    pub room_freed: bool,
 }
 
 impl Model {
@@ -97,6 +102,13 @@ impl Model {
             }
         }
         found
+    }
+
+    /// How many levels are beneath.
+    pub fn levels_beneath(&self, serial: u32) -> usize {
+        let depth = |serial: u32| self.get(serial).map_or(0, |d| d.depth);
+        let deepest = self.beneath(serial).into_iter().map(depth).max();
+        deepest.map_or(0, |deepest| deepest - depth(serial))
     }
 
     pub fn is_leaf(&self, serial: u32) -> bool {
@@ -180,12 +192,15 @@ impl Model {
                 declared,
                 allow,
             });
+            self.was_full |= self.live.len() == MAX_DOCUMENTS;
+            self.room_freed = false;
         } else if answer.starts_with(b"unloaded ") {
             let Some(serial) = parse_number(field(line, 1)) else {
                 return;
             };
             let mut gone = self.beneath(serial);
             gone.push(serial);
+            self.room_freed = self.live.len() == MAX_DOCUMENTS;
             self.live.retain(|d| !gone.contains(&d.serial));
             self.closed.extend(gone);
         }

@@ -57,6 +57,12 @@ impl Random {
         &choices[self.below(choices.len())]
     }
 
+    /// One of the choices to be changed.
+    pub fn pick_mut<'a, T>(&mut self, choices: &'a mut [T]) -> &'a mut T {
+        let index = self.below(choices.len());
+        &mut choices[index]
+    }
+
     /// One of the words, which must not be none.
     pub fn word(&mut self, words: &[&'static str]) -> &'static str {
         words[self.below(words.len())]

@@ -11,9 +11,27 @@ use crate::replay;
 use crate::table::Table;
 use crate::tidy::tidy;
 
+/// How the documents of a session lie.
+#[derive(Clone, Copy, PartialEq, Eq)]
+enum Shape {
+    /// In any way.
+    Mixed,
+    /// Each beneath all the others.
+    Chain,
+    /// Nearly all in one top-level document.
+    Fan,
+    /// Most at the top level.
+    Grove,
+}
+
 /// What a session tends to.
 struct Style {
     mood: Mood,
+    shape: Shape,
+    /// For a session that fills the table, the weight of loads until it is full.
+    filling: Option<usize>,
+    /// How many frames of a hundred take little away, in such a session.
+    calm: usize,
     /// How many documents it likes to have loaded.
     documents: usize,
     /// How often of a hundred a frame goes into the deepest document.
@@ -33,13 +51,24 @@ struct Style {
 impl Style {
     fn new(random: &mut Random, keep_short: bool) -> Self {
         let mood = Mood::new(random);
+        let filling = random.percent(25).then(|| *random.pick(&[120, 400, 400]));
+        let shapes = [Shape::Mixed, Shape::Chain, Shape::Fan, Shape::Grove];
         Style {
             mood: if keep_short {
                 mood.keeping_short()
             } else {
                 mood
             },
-            documents: *random.pick(&[3, 5, 8, 12, MAX_DOCUMENTS, MAX_DOCUMENTS]),
+            shape: match filling {
+                Some(_) => *random.pick(&shapes),
+                None => Shape::Mixed,
+            },
+            documents: match filling {
+                Some(_) => MAX_DOCUMENTS,
+                None => *random.pick(&[3, 5, 8, 12, 16, 24, MAX_DOCUMENTS]),
+            },
+            filling,
+            calm: *random.pick(&[40, 80, 97]),
             deepest: *random.pick(&[0, 30, 60, 90]),
             bad_lines: *random.pick(&[0, 2, 4, 8]),
             bad_serials: *random.pick(&[2, 6, 12]),
@@ -153,31 +182,12 @@ impl Generator {
 
     fn call(&mut self) -> (Vec<u8>, bool) {
         // What the new document may do is mostly asked at once.
-        if self.just_loaded && self.random.percent(60) {
+        let asked_at_once = if self.style.filling.is_some() { 15 } else { 60 };
+        if self.just_loaded && self.random.percent(asked_at_once) {
             let serial = self.model.last_serial.to_string().into_bytes();
             return (line("enabled", &[serial]), false);
         }
-        let live = self.model.live.len();
-        let wants_more = live < self.style.documents;
-        let full = live >= MAX_DOCUMENTS;
-        let weights = [
-            match (live, wants_more) {
-                (0, _) => 60,
-                (_, true) => 6,
-                (_, false) => 1,
-            },
-            match (wants_more, full) {
-                (true, _) => 40,
-                (false, true) => 10,
-                (false, false) => 4,
-            },
-            if wants_more { 2 } else { 14 },
-            45,
-            4,
-            5,
-            12,
-            12,
-        ];
+        let weights = self.weights();
         match self.random.weighted(&weights) {
             0 => (self.top(), false),
             1 => self.frame(),
@@ -190,6 +200,29 @@ impl Generator {
         }
     }
 
+    /// How often each call is made.
+    fn weights(&self) -> [usize; 8] {
+        let live = self.model.live.len();
+        let wants_more = live < self.style.documents;
+        let full = live >= MAX_DOCUMENTS;
+        let (top, frame, unload) = match (self.style.filling, wants_more) {
+            (Some(_), false) => (3, 25, 14),
+            (Some(loads), true) if live == 0 => (loads, 2, 1),
+            (Some(loads), true) => match self.style.shape {
+                Shape::Mixed => (loads / 8, loads, 2),
+                Shape::Chain | Shape::Fan => (0, loads, 1),
+                Shape::Grove => (loads, loads / 3, 3),
+            },
+            (None, true) => (if live == 0 { 60 } else { 6 }, 40, 2),
+            (None, false) => (1, if full { 10 } else { 4 }, 14),
+        };
+        let (enabled, beneath) = match self.style.filling {
+            Some(_) => (10, 14),
+            None => (4, 5),
+        };
+        [top, frame, unload, 45, enabled, beneath, 15, 12]
+    }
+
     // ------------------------------------------------------ the calls
 
     fn top(&mut self) -> Vec<u8> {
@@ -199,13 +232,18 @@ impl Generator {
             bad: self.style.bad_origins,
         };
         let origin = texts::origin_text(&mut self.random, &self.style.mood, shares);
-        let header = texts::header(&mut self.random, &self.style.mood);
+        let header = texts::top_level_header(&mut self.random, &self.style.mood);
         let fields = [self.text(&origin), self.text(&header)];
         line("top", &fields)
     }
 
     fn frame(&mut self) -> (Vec<u8>, bool) {
-        if self.random.percent(25) {
+        // A full table is tried with every kind of frame.
+        let full = self.model.live.len() >= MAX_DOCUMENTS;
+        if self.style.filling.is_some() && !full && self.random.percent(self.style.calm) {
+            return self.calm_frame();
+        }
+        if self.style.shape != Shape::Chain && self.random.percent(30) {
             if let Some((container, origin, allow)) = self.frame_about_expressions() {
                 let header = if self.random.percent(70) {
                     Vec::new()
@@ -261,8 +299,39 @@ impl Generator {
         (line("frame", &fields), sandboxed)
     }
 
+    /// A frame that takes little away from what its container may do, so that
+    /// something is left for the documents far beneath.
+    fn calm_frame(&mut self) -> (Vec<u8>, bool) {
+        let container = self.container();
+        let sandboxed = self.is_sandboxed(container);
+        let src = if self.random.percent(50) {
+            Vec::new()
+        } else {
+            texts::good_origin(&mut self.random, &self.style.mood).into_bytes()
+        };
+        let origin = if sandboxed {
+            b"null".to_vec()
+        } else if self.random.percent(20) {
+            Vec::new()
+        } else {
+            src.clone()
+        };
+        let allow = texts::calm_allow(&mut self.random, &self.style.mood);
+        let header = texts::calm_header(&mut self.random, &self.style.mood);
+        let fields = [
+            container.to_string().into_bytes(),
+            self.text(&origin),
+            self.text(&src),
+            self.flag(),
+            self.text(&allow),
+            b"0".to_vec(),
+            self.text(&header),
+        ];
+        (line("frame", &fields), sandboxed)
+    }
+
     fn forecast(&mut self) -> Vec<u8> {
-        if self.random.percent(25) {
+        if self.random.percent(30) {
             if let Some((container, src, allow)) = self.frame_about_expressions() {
                 let fields = [
                     container.to_string().into_bytes(),
@@ -290,6 +359,8 @@ impl Generator {
 
     fn unload(&mut self) -> Vec<u8> {
         let candidates: Vec<u32> = match self.random.below(10) {
+            // In the middle of a chain.
+            4..=6 if self.style.shape == Shape::Chain => self.where_known(|_, d| d.depth > 0),
             0 => self.where_known(|model, d| model.is_leaf(d.serial) && d.depth == 0),
             1 => self.where_known(|_, d| d.depth == 0),
             2..=3 => self.where_known(|_, d| d.depth > 0),
@@ -304,7 +375,7 @@ impl Generator {
     }
 
     fn ask(&mut self) -> Vec<u8> {
-        if self.random.percent(40) {
+        if self.random.percent(45) {
             if let Some(line) = self.ask_near_header() {
                 return line;
             }
@@ -340,9 +411,15 @@ impl Generator {
     fn ask_near_header(&mut self) -> Option<Vec<u8>> {
         let only_top = self.random.percent(75);
         let wanted = |d: &Known| (d.depth == 0 || !only_top) && !d.expressions().is_empty();
-        let documents = self.where_known(|_, d| wanted(d));
+        let mut documents = self.where_known(|_, d| wanted(d));
         if documents.is_empty() {
             return None;
+        }
+        if self.random.percent(50) {
+            let crowded = self.where_known(|_, d| wanted(d) && d.expressions().len() >= 100);
+            if !crowded.is_empty() {
+                documents = crowded;
+            }
         }
         let serial = *self.random.pick(&documents);
         let expressions = self.model.get(serial)?.expressions();
@@ -362,7 +439,12 @@ impl Generator {
     }
 
     fn beneath(&mut self) -> Vec<u8> {
-        let serial = self.serial();
+        // Many serials are beneath the first document, if anywhere.
+        let often = if self.style.filling.is_some() { 60 } else { 20 };
+        let serial = match self.model.live.first() {
+            Some(first) if self.random.percent(often) => first.serial,
+            _ => self.serial(),
+        };
         let room = self.room(self.model.beneath(serial).len());
         line(
             "beneath",
@@ -386,13 +468,23 @@ impl Generator {
     /// A lent run for an output of this length: enough, or just not enough.
     fn room(&mut self, length: usize) -> u32 {
         let length = length as u32;
-        match self.random.below(12) {
+        match self.random.below(13) {
             0 => 0,
-            1 | 2 => length.saturating_sub(1),
-            3..=5 => length,
-            6 => length + 1,
-            7 => self.random.below(20) as u32,
-            8 => *self.random.pick(&[16, 17, 1023, 1024, 1025, 65536]),
+            1..=3 => length.saturating_sub(1),
+            4..=6 => length,
+            7 => length + 1,
+            8 => self.random.below(MAX_DOCUMENTS + 6) as u32,
+            9 => *self.random.pick(&[
+                16,
+                17,
+                1024,
+                MAX_DOCUMENTS as u32 - 1,
+                MAX_DOCUMENTS as u32,
+                MAX_TIDIED_BYTES as u32 - 1,
+                MAX_TIDIED_BYTES as u32,
+                MAX_TIDIED_BYTES as u32 + 1,
+                65536,
+            ]),
             _ => *self.random.pick(&[5000, u32::MAX, u32::MAX - 1, 1 << 31]),
         }
     }
@@ -426,9 +518,18 @@ impl Generator {
         if self.model.live.is_empty() || self.random.percent(self.style.bad_serials) {
             return self.serial_not_loaded();
         }
-        if self.random.percent(self.style.deepest) {
+        let deepest = match self.style.shape {
+            Shape::Mixed => self.style.deepest,
+            Shape::Chain => 100,
+            Shape::Fan => 2,
+            Shape::Grove => 0,
+        };
+        if self.random.percent(deepest) {
             let deepest = self.model.live.iter().max_by_key(|d| d.depth);
             return deepest.map_or(0, |d| d.serial);
+        }
+        if self.style.shape == Shape::Fan && self.random.percent(90) {
+            return self.model.live[0].serial;
         }
         self.random.pick(&self.model.live).serial
     }
@@ -488,7 +589,8 @@ impl Generator {
     fn container_beside(&mut self, sandbox: &Option<Sandbox>) -> u32 {
         let container = self.container();
         let open = self.where_known(|_, d| !d.in_sandbox());
-        if sandbox.is_some() && !open.is_empty() && self.random.percent(25) {
+        let chain = self.style.shape == Shape::Chain;
+        if sandbox.is_some() && !chain && !open.is_empty() && self.random.percent(25) {
             return *self.random.pick(&open);
         }
         container

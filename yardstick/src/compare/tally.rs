@@ -4,6 +4,7 @@ use std::collections::BTreeMap;
 
 use super::model::{field, parse_number, Known, Model, SandboxedFrame};
 use super::schemes::SchemeCases;
+use super::sizes::SizeCases;
 use crate::features::{default_is_all, FEATURES, FEATURE_COUNT, PLUGINS};
 
 #[derive(Clone, Debug, Default)]
@@ -25,6 +26,8 @@ pub struct Tally {
     some_of_ten: BTreeMap<Asked, u64>,
     /// R-3's cases.
     schemes: SchemeCases,
+    /// R-4's cases.
+    sizes: SizeCases,
 }
 
 /// Whether an answer is about a loaded document or is a forecast.
@@ -97,6 +100,7 @@ impl Tally {
             return;
         }
         self.schemes.observe(model, line, answer);
+        self.sizes.observe(model, line, answer);
         let name = String::from_utf8_lossy(field(line, 0)).into_owned();
         if kind.starts_with("refused") {
             let refused = format!("{name} {kind}");
@@ -248,6 +252,7 @@ impl Tally {
             }
         }
         self.schemes.print();
+        self.sizes.print();
     }
 
     /// What is too rare; empty if the sessions bite.
@@ -263,6 +268,7 @@ impl Tally {
         }
         lacks.extend(self.sandbox_lacks(wanted));
         lacks.extend(self.schemes.lacks(self.calls));
+        lacks.extend(self.sizes.lacks(self.calls));
         let deep = self.deep_enabled + self.deep_disabled;
         for (name, count) in [
             ("Enabled", self.deep_enabled),

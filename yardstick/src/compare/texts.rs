@@ -6,7 +6,8 @@ use crate::attributes::features_by_keyword;
 use crate::expressions::{HostPart, PortPart, SourceExpression};
 use crate::features::{default_is_all, FEATURES, FEATURE_COUNT, PLUGINS};
 use crate::limits::{
-    MAX_FRACTION_DIGITS, MAX_HOST_BYTES, MAX_INTEGER_DIGITS, MAX_TEXT_BYTES, MAX_WHOLE_DIGITS,
+    MAX_FRACTION_DIGITS, MAX_HOST_BYTES, MAX_INTEGER_DIGITS, MAX_TEXT_BYTES, MAX_TIDIED_BYTES,
+    MAX_WHOLE_DIGITS,
 };
 use crate::origins::is_host;
 
@@ -143,14 +144,16 @@ fn length_near(random: &mut Random, limit: usize) -> usize {
     *random.pick(&[limit - 1, limit, limit, limit + 1])
 }
 
-/// A length around the limit, or now and then far over it.
+/// A length around the limit, now and then far over it, or long and well
+/// within it.
 fn text_length(random: &mut Random) -> usize {
     if random.permille(5) {
-        70_000
-    } else if random.percent(6) {
-        *random.pick(&[2 * MAX_TEXT_BYTES, 5000])
-    } else {
-        length_near(random, MAX_TEXT_BYTES)
+        return 70_000;
+    }
+    match random.below(100) {
+        0..=11 => *random.pick(&[5000, 2 * MAX_TEXT_BYTES, 10_000]),
+        12..=29 => *random.pick(&[1025, 1100, 2048, 3100, 4000]),
+        _ => length_near(random, MAX_TEXT_BYTES),
     }
 }
 
@@ -940,8 +943,8 @@ fn padded_header(random: &mut Random, mood: &Mood, length: usize) -> Vec<u8> {
     padded
 }
 
-/// A header within the limit whose tidied form is about at it: the brackets
-/// and spaces that tidying adds make up to three bytes a member.
+/// A header within the limit whose tidied form is about at it: tidying adds
+/// brackets to a single item, and a space after each comma.
 fn header_that_grows(random: &mut Random) -> Vec<u8> {
     let members = random.between(4, FEATURE_COUNT);
     let mut features: Vec<usize> = (0..FEATURE_COUNT).collect();
@@ -949,45 +952,121 @@ fn header_that_grows(random: &mut Random) -> Vec<u8> {
         let other = random.between(index, FEATURE_COUNT - 1);
         features.swap(index, other);
     }
-    let target = crate::limits::MAX_TIDIED_BYTES + random.below(6) - 2;
-    let length = target.saturating_sub(3 * members - 1).min(MAX_TEXT_BYTES);
-    let mut text = String::new();
-    for (index, &feature) in features[..members].iter().enumerate() {
-        if index > 0 {
-            text.push(',');
+    features.truncate(members);
+    let target = MAX_TIDIED_BYTES + random.pick(&[0, 1, 2, 2, 2, 3, 3, 4, 5]) - 2;
+    let mut lists: Vec<Vec<String>> = vec![Vec::new(); members];
+    // What the tidied form has so far: names, `=()` and `, `.
+    let names: usize = features.iter().map(|&f| FEATURES[f].name.len()).sum();
+    let mut length = names + 3 * members + 2 * (members - 1);
+    for number in 0.. {
+        let list = random.pick_mut(&mut lists);
+        let space = usize::from(!list.is_empty());
+        let room = target - length;
+        if space == 0 && room > MAX_HOST_BYTES && random.percent(20) {
+            list.push("self".to_string());
+            length += "self".len();
+            continue;
         }
-        text.push_str(FEATURES[feature].name);
-        // As long as there is room, a string; in the end `self`.
-        let rest: usize = features[index + 1..members]
-            .iter()
-            .map(|&f| FEATURES[f].name.len() + "=self,".len())
-            .sum();
-        let room = length.saturating_sub(text.len() + rest);
         // Tidying keeps these as they are.
         let (scheme, port) = *random.pick(&[("https", ""), ("http", ""), ("http", ":80")]);
-        let frame = format!("=\"{scheme}://{port}\"").len();
-        if room > frame {
-            let wanted = (room - frame).min(MAX_HOST_BYTES);
-            let wanted = if index + 1 < members && wanted == room - frame && wanted > 20 {
-                wanted - 20
-            } else {
-                wanted
-            };
-            text.push_str(&format!("=\"{scheme}://{}{port}\"", long_host(wanted)));
+        let around = space + format!("\"{scheme}://{port}\"").len();
+        // Enough is left for another, or this is the last.
+        let last = room <= around + MAX_HOST_BYTES;
+        let host = if last {
+            room - around
         } else {
-            text.push_str("=self");
+            random.between(60, MAX_HOST_BYTES).min(room - around - 30)
+        };
+        // No two are alike.
+        let host = format!("{number:02}{}", long_host(host - 2));
+        list.push(format!("\"{scheme}://{host}{port}\""));
+        length += around + host.len();
+        if last {
+            break;
         }
     }
-    text.into_bytes()
+    let mut text = Vec::new();
+    for (&feature, list) in features.iter().zip(&lists) {
+        let name = FEATURES[feature].name;
+        text.push(match &list[..] {
+            [item] if random.percent(80) => format!("{name}={item}"),
+            _ => format!("{name}=({})", list.join(" ")),
+        });
+    }
+    text.join(",").into_bytes()
+}
+
+/// A dictionary of so many bytes with as many parts of one kind as fit in.
+fn crowded_header(random: &mut Random, mood: &Mood, length: usize) -> Vec<u8> {
+    let name = feature_name(random, mood);
+    let kind = *random.pick(&[0, 0, 0, 1, 2, 3, 4, 5]);
+    let (mut text, end) = match kind {
+        0..=2 => {
+            let end = random.word(&[")", ")", "self)", "\"https://b.example\")", "*)"]);
+            (format!("{name}=("), end.to_string())
+        }
+        3 => (member(random, mood) + ",", member(random, mood)),
+        4 => (
+            String::new(),
+            format!("{name}={}", inner_list(random, mood)),
+        ),
+        _ => (format!("{name}=self"), String::new()),
+    };
+    let first = expression_about(random, "https://b.example");
+    for number in 0.. {
+        let part = match kind {
+            // Expressions, all different.
+            0 => {
+                let scheme = random.word(&["http", "https"]);
+                format!("\"{scheme}://{number}\" ")
+            }
+            // Few different ones.
+            1 => format!("\"{}\" ", expression_again(random, &first)),
+            // Items that count for nothing.
+            2 => random
+                .word(&["1 ", "a ", "?0 ", "\"\" ", "Self ", "::  "])
+                .to_string(),
+            3 => format!("k{number},"),
+            4 => format!(
+                "{name}={},",
+                random.word(&["*", "1", "()", "self", "(self)"])
+            ),
+            _ => format!(";p{number}"),
+        };
+        if text.len() + part.len() + end.len() > length {
+            break;
+        }
+        text.push_str(&part);
+    }
+    text.push_str(&end);
+    let mut text = text.into_bytes();
+    text.resize(text.len().max(length), b' ');
+    text
+}
+
+/// A header near or over the limit.
+fn long_header(random: &mut Random, mood: &Mood) -> Vec<u8> {
+    if random.percent(20) {
+        return header_that_grows(random);
+    }
+    let length = text_length(random);
+    if random.percent(40) {
+        return crowded_header(random, mood, length);
+    }
+    padded_header(random, mood, length)
+}
+
+/// A header of a top-level document: long twice as often.
+pub fn top_level_header(random: &mut Random, mood: &Mood) -> Vec<u8> {
+    if random.permille(mood.long) {
+        return long_header(random, mood);
+    }
+    header(random, mood)
 }
 
 pub fn header(random: &mut Random, mood: &Mood) -> Vec<u8> {
     if random.permille(mood.long) {
-        if random.percent(30) {
-            return header_that_grows(random);
-        }
-        let length = text_length(random);
-        return padded_header(random, mood, length);
+        return long_header(random, mood);
     }
     if random.percent(mood.damage) {
         return match random.below(10) {
@@ -1009,13 +1088,17 @@ pub fn header(random: &mut Random, mood: &Mood) -> Vec<u8> {
 /// A header for tidying: more often long, and more often about many features.
 pub fn header_to_tidy(random: &mut Random, mood: &Mood) -> Vec<u8> {
     match random.below(20) {
-        0 if mood.long > 4 || random.percent(10) => header_that_grows(random),
+        0 if mood.long > 4 || random.percent(40) => header_that_grows(random),
         1 => {
             let everything = Mood {
                 features: (0..FEATURE_COUNT).collect(),
                 ..mood.clone()
             };
             dictionary(random, &everything).into_bytes()
+        }
+        2 if mood.long > 4 && random.percent(30) => {
+            let length = text_length(random);
+            crowded_header(random, mood, length)
         }
         2..=4 => flawed_dictionary(random, mood).into_bytes(),
         5..=7 => header_of_doubles(random, mood).into_bytes(),
@@ -1044,7 +1127,30 @@ fn header_of_doubles(random: &mut Random, mood: &Mood) -> String {
     members.join(comma(random))
 }
 
+/// A header that takes little away.
+pub fn calm_header(random: &mut Random, mood: &Mood) -> Vec<u8> {
+    if random.percent(85) {
+        return Vec::new();
+    }
+    let name = feature_name(random, mood);
+    let value = random.word(&["*", "*", "(self *)", "self", "1", "(\"https:\" \"http:\")"]);
+    format!("{name}={value}").into_bytes()
+}
+
 // ----------------------------------------------------------- attributes
+
+/// An allow attribute that takes little away.
+pub fn calm_allow(random: &mut Random, mood: &Mood) -> Vec<u8> {
+    let mut pieces = Vec::new();
+    for _ in 0..*random.pick(&[0, 0, 1, 2, 3]) {
+        let name = feature_name(random, mood);
+        pieces.push(format!(
+            "{name}{}",
+            random.word(&[" *", " *", " 'self' 'src'", ""])
+        ));
+    }
+    pieces.join(";").into_bytes()
+}
 
 fn whitespace(random: &mut Random) -> &'static str {
     random.word(&[
@@ -1123,8 +1229,12 @@ fn allow_pieces(random: &mut Random, mood: &Mood) -> Vec<u8> {
 
 pub fn allow(random: &mut Random, mood: &Mood) -> Vec<u8> {
     if random.permille(mood.long) {
+        let length = text_length(random);
+        if random.percent(25) {
+            return crowded_allow(random, mood, length);
+        }
         let mut text = allow_pieces(random, mood);
-        let missing = text_length(random).saturating_sub(text.len());
+        let missing = length.saturating_sub(text.len());
         let filler = *random.pick(b"  ;;x\t");
         let padding = vec![filler; missing];
         if random.percent(50) {
@@ -1140,6 +1250,36 @@ pub fn allow(random: &mut Random, mood: &Mood) -> Vec<u8> {
     if random.percent(mood.damage) {
         damage(random, &mut text);
     }
+    text
+}
+
+/// An allow attribute of so many bytes with as many words or pieces as fit in;
+/// what counts stands at the end or at the start.
+fn crowded_allow(random: &mut Random, mood: &Mood, length: usize) -> Vec<u8> {
+    let name = feature_name(random, mood);
+    let (mut text, end) = match random.below(4) {
+        0 => (allow_piece(random, mood), Vec::new()),
+        1 => (name.as_bytes().to_vec(), allow_word(random, mood)),
+        _ => (Vec::new(), allow_piece(random, mood)),
+    };
+    let words = !text.is_empty();
+    for number in 0.. {
+        let part = match (words, random.below(4)) {
+            (true, 0) => " 'none'".to_string(),
+            (true, 1) => format!(" https://{number}"),
+            (true, _) => " x".to_string(),
+            (false, 0) => format!("{name} *;"),
+            (false, 1) => format!("{name} https://{number};"),
+            (false, 2) => format!("{name} 'none';"),
+            (false, _) => ";".to_string(),
+        };
+        if text.len() + part.len() + 1 + end.len() > length {
+            break;
+        }
+        text.extend_from_slice(part.as_bytes());
+    }
+    text.resize(length.saturating_sub(end.len()).max(text.len() + 1), b' ');
+    text.extend_from_slice(&end);
     text
 }
 
@@ -1373,7 +1513,8 @@ pub fn sandbox(random: &mut Random, mood: &Mood) -> Sandbox {
     if random.percent(mood.damage / 3) {
         damage(random, &mut text);
     }
-    if random.permille(mood.long) {
+    // Sandbox attributes are rarer than the other texts.
+    if random.permille(4 * mood.long) {
         let missing = text_length(random).saturating_sub(text.len());
         let padding = sandbox_padding(random, mood, missing);
         if random.percent(50) {
@@ -1473,7 +1614,7 @@ mod tests {
             assert!(header.len() <= MAX_TEXT_BYTES);
             let length = tidied_form(&policy).len();
             if let Some(count) = length
-                .checked_sub(1023)
+                .checked_sub(MAX_TIDIED_BYTES - 1)
                 .and_then(|index| lengths.get_mut(index))
             {
                 *count += 1;
@@ -1572,9 +1713,23 @@ mod tests {
     #[test]
     fn padded_headers_have_their_length() {
         many(|random, mood| {
-            let header = padded_header(random, mood, 1024);
-            // A dictionary may be longer than that by itself.
-            assert!(header.len() >= 1024);
+            let header = padded_header(random, mood, MAX_TEXT_BYTES);
+            assert_eq!(header.len(), MAX_TEXT_BYTES);
+        });
+    }
+
+    #[test]
+    fn crowded_texts_have_their_length() {
+        many(|random, mood| {
+            let header = crowded_header(random, mood, MAX_TEXT_BYTES);
+            assert_eq!(header.len(), MAX_TEXT_BYTES);
+            assert!(
+                parse_dictionary(&header).is_ok(),
+                "{}",
+                header.escape_ascii()
+            );
+            let allow = crowded_allow(random, mood, MAX_TEXT_BYTES);
+            assert_eq!(allow.len(), MAX_TEXT_BYTES);
         });
     }
 }

@@ -1,5 +1,5 @@
 //! The cases of document 01, the refusal table with its order, R-1 with the
-//! examples of document 001, and R-3.
+//! examples of document 001, R-3, and R-4's edges.
 
 use super::*;
 use crate::compare::random::Random;
@@ -519,8 +519,8 @@ fn keywords_change_no_refusal() {
         };
         assert_eq!(tuple.load(&mut table), Err(Refusal::Sandbox));
     }
-    // 1,024 bytes are read to the end.
-    let long = format!("{}allow-forms", " ".repeat(1013));
+    // 4,096 bytes are read to the end.
+    let long = format!("{}allow-forms", " ".repeat(4085));
     assert_eq!(features_in("", sandboxed(&long, "")), set(&[FORMS]));
     let over = format!(" {long}");
     let over = sandboxed(&over, "");
@@ -682,7 +682,7 @@ fn serials_counts_and_listings() {
     assert_eq!(table.enabled_features(3), Ok((1 << 17) - 1));
 }
 
-/// A table of 16 documents, the second sandboxed.
+/// A table of 64 documents, the second sandboxed.
 fn full() -> Table {
     let mut table = container("");
     let sandboxed = Case {
@@ -691,7 +691,7 @@ fn full() -> Table {
         ..case(1)
     };
     assert_eq!(sandboxed.load(&mut table), Ok(2));
-    for serial in 3..=16 {
+    for serial in 3..=64 {
         assert_eq!(case(1).load(&mut table), Ok(serial));
     }
     table
@@ -700,7 +700,7 @@ fn full() -> Table {
 #[test]
 fn the_refusals_in_their_order() {
     let mut table = full();
-    let long = "x".repeat(1025);
+    let long = "x".repeat(4097);
     // All at once, then one mended after the other: 4, 3, 3, 1, 5, 6.
     let mut all = Case {
         container: 99,
@@ -731,7 +731,7 @@ fn the_refusals_in_their_order() {
     assert!(all.forecast(&table).is_ok());
     all.origin = "null";
     assert_eq!(all.load(&mut table), Err(Refusal::Full));
-    table.unload(16).expect("accepted");
+    table.unload(64).expect("accepted");
     table.last_serial = LAST_SERIAL;
     assert_eq!(all.load(&mut table), Err(Refusal::Spent));
 
@@ -742,7 +742,7 @@ fn the_refusals_in_their_order() {
     assert_eq!(top(&mut table, "", ""), Err(Refusal::BadOrigin));
     table.last_serial = LAST_SERIAL;
     assert_eq!(top(&mut table, A, ""), Err(Refusal::Full));
-    table.unload(16).expect("accepted");
+    table.unload(64).expect("accepted");
     assert_eq!(top(&mut table, A, ""), Err(Refusal::Spent));
     table.last_serial = LAST_SERIAL - 1;
     assert_eq!(top(&mut table, A, &long[1..]), Ok(LAST_SERIAL));
@@ -759,24 +759,321 @@ fn the_refusals_in_their_order() {
     // Listings: 1, 9.
     assert_eq!(table.serials_beneath(0, &mut []), Err(Refusal::NotLoaded));
     assert_eq!(table.serials_beneath(1, &mut []), Err(Refusal::Small));
-    assert_eq!(table.enabled_features(16), Err(Refusal::NotLoaded));
+    assert_eq!(table.enabled_features(64), Err(Refusal::NotLoaded));
 }
 
 #[test]
 fn the_limits() {
     let mut table = full();
     assert_eq!(top(&mut table, A, ""), Err(Refusal::Full));
-    assert_eq!(table.documents.len(), 16);
+    assert_eq!(table.documents.len(), 64);
 
     let mut table = Table::new();
-    assert_eq!(top(&mut table, A, &" ".repeat(1024)), Ok(1));
-    assert_eq!(top(&mut table, A, &" ".repeat(1025)), Err(Refusal::TooLong));
+    assert_eq!(top(&mut table, A, &" ".repeat(4096)), Ok(1));
+    assert_eq!(top(&mut table, A, &" ".repeat(4097)), Err(Refusal::TooLong));
+    // What decides may stand at the end.
+    let header = format!("{}camera=()", " ".repeat(4087));
+    assert_eq!(top(&mut table, A, &header), Ok(2));
+    assert!(!ask(&table, 2, CAMERA, ""));
     let host = "a".repeat(253);
-    assert_eq!(top(&mut table, &format!("http://{host}"), ""), Ok(2));
-    assert_eq!(
-        top(&mut table, &format!("http://{host}a"), ""),
-        Err(Refusal::BadOrigin)
-    );
+    assert_eq!(top(&mut table, &format!("http://{host}"), ""), Ok(3));
+    // A long origin text is bad, however long it is.
+    for more in [1, 3843, 3844, 5000] {
+        let origin = format!("http://{host}{}", "a".repeat(more));
+        assert_eq!(top(&mut table, &origin, ""), Err(Refusal::BadOrigin));
+        assert_eq!(
+            table.question(1, CAMERA, origin.as_bytes()),
+            Err(Refusal::BadOrigin)
+        );
+        let frame = Case {
+            src: &origin,
+            ..case(1)
+        };
+        assert_eq!(frame.load(&mut table), Err(Refusal::BadOrigin));
+        assert_eq!(frame.forecast(&table), Err(Refusal::BadOrigin));
+    }
+}
+
+// ---------------------------------------------------------------
+
+/// 4,096 bytes of allow and of sandbox are read to the end, 4,097 refused.
+#[test]
+fn long_attributes() {
+    let camera = set(&[CAMERA]);
+    for filler in [" ", ";", "x;", "forms;"] {
+        let mut allow = filler.repeat(4096);
+        allow.truncate(4089);
+        allow.push_str(";camera");
+        let frame = Case {
+            allow: &allow,
+            ..case(1)
+        };
+        assert_eq!(features_in("", frame) & camera, camera, "{filler}");
+        allow.insert(0, ';');
+        let frame = Case {
+            allow: &allow,
+            ..case(1)
+        };
+        let mut table = container("");
+        assert_eq!(frame.load(&mut table), Err(Refusal::TooLong));
+        assert_eq!(frame.forecast(&table), Err(Refusal::TooLong));
+    }
+    for filler in [" ", "x ", "allow-scripts "] {
+        let mut sandbox = filler.repeat(4096);
+        sandbox.truncate(4078);
+        sandbox.push_str(" allow-same-origin");
+        assert_eq!(sandbox.len(), 4096);
+        let frame = sandboxed(&sandbox, "camera");
+        assert_eq!(features_in("", frame) & camera, camera, "{filler}");
+        sandbox.push(' ');
+        let frame = sandboxed(&sandbox, "camera");
+        let mut table = container("");
+        assert_eq!(frame.load(&mut table), Err(Refusal::TooLong));
+        assert_eq!(frame.forecast(&table), Err(Refusal::TooLong));
+    }
+    // Each in its place at once.
+    let [allow, header] = ["camera *;", "camera=*,"].map(|start| {
+        let mut text = start.to_string();
+        text.push_str(&"a".repeat(4096 - start.len()));
+        text
+    });
+    let frame = Case {
+        header: &header,
+        sandbox: Some(&allow),
+        origin: "null",
+        ..sandboxed("", &allow)
+    };
+    assert_eq!(features_in("", frame), camera);
+}
+
+/// A header of one maker with 3,100 bytes: 130 hosts in one list.
+#[test]
+fn a_makers_header() {
+    let hosts: Vec<String> = (0..130)
+        .map(|n| format!("https://m{n:03}.example"))
+        .collect();
+    let mut header = format!("camera=(\"{}\" self)", hosts.join("\" \""));
+    header.push_str(&" ".repeat(3100 - header.len()));
+    let table = container(&header);
+    for host in &hosts {
+        assert!(ask(&table, 1, CAMERA, host), "{host}");
+    }
+    assert!(!ask(&table, 1, CAMERA, "https://m130.example"));
+}
+
+/// The serials beneath, with a lent run of just so many.
+fn listing(table: &Table, serial: u32, count: usize) -> Vec<u32> {
+    if count > 0 {
+        let mut short = vec![9; count - 1];
+        assert_eq!(
+            table.serials_beneath(serial, &mut short),
+            Err(Refusal::Small)
+        );
+        assert_eq!(short, vec![9; count - 1]);
+    }
+    let mut lent = vec![0; count];
+    assert_eq!(table.serials_beneath(serial, &mut lent), Ok(count));
+    let mut longer = vec![0; 70];
+    assert_eq!(table.serials_beneath(serial, &mut longer), Ok(count));
+    assert_eq!(longer[..count], lent);
+    assert!(longer[count..].iter().all(|&place| place == 0));
+    lent
+}
+
+/// Full: every kind of load is refused with 6 and nothing changes.
+fn assert_full(table: &mut Table, container: u32) {
+    assert_eq!(table.documents.len(), 64);
+    for _ in 0..2 {
+        assert_eq!(top(table, A, ""), Err(Refusal::Full));
+        assert_eq!(case(container).load(table), Err(Refusal::Full));
+    }
+    assert!(case(container).forecast(table).is_ok());
+    assert_eq!(table.documents.len(), 64);
+}
+
+#[test]
+fn the_64th_load_in_one_tree() {
+    let mut table = container("");
+    for serial in 2..=64 {
+        assert_eq!(case(1).load(&mut table), Ok(serial));
+    }
+    assert_full(&mut table, 1);
+    assert_eq!(listing(&table, 1, 63), (2..=64).collect::<Vec<u32>>());
+    // One goes, one comes; listings stay ascending.
+    for (gone, new) in [(2, 65), (33, 66), (64, 67), (67, 68)] {
+        assert_eq!(table.unload(gone), Ok(1));
+        assert_eq!(case(1).load(&mut table), Ok(new));
+        assert_full(&mut table, 1);
+        let serials = listing(&table, 1, 63);
+        assert!(serials.windows(2).all(|pair| pair[0] < pair[1]));
+        assert_eq!(serials.last(), Some(&new));
+        assert!(!serials.contains(&gone));
+    }
+    assert_eq!(table.unload(1), Ok(64));
+    assert_eq!(table.unload(1), Err(Refusal::NotLoaded));
+    assert_eq!(top(&mut table, A, ""), Ok(69));
+}
+
+#[test]
+fn the_64th_load_in_many_trees() {
+    let mut table = Table::new();
+    for serial in 1..=64 {
+        let origin = format!("https://t{serial}");
+        assert_eq!(top(&mut table, &origin, ""), Ok(serial));
+    }
+    assert_full(&mut table, 40);
+    // A tree with a frame in the room of another tree.
+    assert_eq!(table.unload(20), Ok(1));
+    assert_eq!(case(40).load(&mut table), Ok(65));
+    assert_full(&mut table, 65);
+    assert_eq!(listing(&table, 40, 1), [65]);
+    assert_eq!(table.unload(40), Ok(2));
+    assert_eq!(top(&mut table, A, ""), Ok(66));
+    assert_eq!(case(66).load(&mut table), Ok(67));
+    assert_full(&mut table, 1);
+    // Nobody else was touched.
+    for serial in (1..=64).filter(|serial| ![20, 40].contains(serial)) {
+        assert_eq!(listing(&table, serial, 0), []);
+        assert!(ask(&table, serial, CAMERA, ""));
+        assert!(ask(&table, serial, CAMERA, &format!("https://t{serial}")));
+        assert!(!ask(&table, serial, CAMERA, "https://t20"));
+    }
+    // All go, all come.
+    for serial in (1..=64).filter(|serial| ![20, 40].contains(serial)) {
+        assert_eq!(table.unload(serial), Ok(1));
+    }
+    assert_eq!(table.unload(66), Ok(2));
+    for serial in 68..=131 {
+        assert_eq!(top(&mut table, A, ""), Ok(serial));
+    }
+    assert_full(&mut table, 131);
+}
+
+/// A chain of 64: the document with serial n is beneath all before it.
+fn chain() -> Table {
+    let mut table = container("");
+    for serial in 2..=64 {
+        let frame = Case {
+            allow: "camera *",
+            ..case(serial - 1)
+        };
+        assert_eq!(frame.load(&mut table), Ok(serial));
+    }
+    table
+}
+
+#[test]
+fn a_chain_of_64() {
+    let mut table = chain();
+    assert_full(&mut table, 64);
+    for serial in 1..=64 {
+        assert!(ask(&table, serial, CAMERA, ""));
+        assert!(ask(&table, serial, FORMS, C));
+        let beneath: Vec<u32> = (serial + 1..=64).collect();
+        assert_eq!(listing(&table, serial, 64 - serial as usize), beneath);
+    }
+    // In the middle.
+    assert_eq!(table.unload(32), Ok(33));
+    assert_eq!(listing(&table, 1, 30), (2..=31).collect::<Vec<u32>>());
+    for serial in 32..=64 {
+        assert_eq!(table.enabled_features(serial), Err(Refusal::NotLoaded));
+        assert_eq!(table.unload(serial), Err(Refusal::NotLoaded));
+    }
+    // The chain once more, closed on the way, down to its end.
+    let closed = Case {
+        header: "camera=()",
+        allow: "camera *",
+        ..case(31)
+    };
+    assert_eq!(closed.load(&mut table), Ok(65));
+    for serial in 66..=97 {
+        let frame = Case {
+            allow: "camera *",
+            header: "camera=*",
+            ..case(serial - 1)
+        };
+        assert_eq!(frame.load(&mut table), Ok(serial));
+        assert!(!ask(&table, serial, CAMERA, ""));
+        assert!(ask(&table, serial, FORMS, ""));
+    }
+    assert_full(&mut table, 97);
+    assert_eq!(listing(&table, 65, 32), (66..=97).collect::<Vec<u32>>());
+    // At its end, and at its top.
+    assert_eq!(table.unload(97), Ok(1));
+    assert_eq!(case(96).load(&mut table), Ok(98));
+    assert_full(&mut table, 98);
+    assert_eq!(table.unload(1), Ok(64));
+    assert_eq!(table.documents.len(), 0);
+    assert_eq!(case(98).load(&mut table), Err(Refusal::NotLoaded));
+    assert_eq!(top(&mut table, A, ""), Ok(99));
+}
+
+/// A chain with a sandboxed document in its middle, and one that takes an
+/// opaque origin over down to its end.
+#[test]
+fn chains_keep_what_was_settled() {
+    let mut table = container("");
+    let sandbox = Case {
+        sandbox: Some("allow-forms"),
+        origin: "null",
+        ..case(1)
+    };
+    assert_eq!(sandbox.load(&mut table), Ok(2));
+    for serial in 3..=64 {
+        assert_eq!(case(serial - 1).load(&mut table), Err(Refusal::Sandbox));
+        let null = Case {
+            origin: "null",
+            ..case(serial - 1)
+        };
+        assert_eq!(null.load(&mut table), Ok(serial));
+        assert_eq!(table.enabled_features(serial), Ok(set(&[FORMS])));
+    }
+    // 5 before 6.
+    assert_eq!(case(64).load(&mut table), Err(Refusal::Sandbox));
+    assert_eq!(case(1).load(&mut table), Err(Refusal::Full));
+
+    let mut table = Table::new();
+    assert_eq!(top(&mut table, "null", "camera=self"), Ok(1));
+    for serial in 2..=64 {
+        let taking_over = Case {
+            origin: "",
+            src: "",
+            ..case(serial - 1)
+        };
+        assert_eq!(taking_over.load(&mut table), Ok(serial));
+        assert!(ask(&table, serial, CAMERA, ""));
+        assert!(!ask(&table, serial, CAMERA, "null"));
+    }
+}
+
+/// Trees whose documents were loaded by turns: an unload takes one tree only,
+/// and rooms are taken again and again.
+#[test]
+fn trees_by_turns() {
+    let mut table = Table::new();
+    // 1 to 4 at the top; n beneath n - 4.
+    for serial in 1..=4 {
+        assert_eq!(top(&mut table, A, ""), Ok(serial));
+    }
+    for serial in 5..=64 {
+        assert_eq!(case(serial - 4).load(&mut table), Ok(serial));
+    }
+    assert_full(&mut table, 64);
+    let second: Vec<u32> = (6..=64).step_by(4).collect();
+    assert_eq!(listing(&table, 2, 15), second);
+    assert_eq!(table.unload(30), Ok(9));
+    assert_eq!(listing(&table, 2, 6), [6, 10, 14, 18, 22, 26]);
+    for tree in [1, 3, 4] {
+        assert_eq!(listing(&table, tree, 15).len(), 15);
+    }
+    for serial in 65..=73 {
+        assert_eq!(case(3).load(&mut table), Ok(serial));
+    }
+    assert_full(&mut table, 73);
+    let third: Vec<u32> = (7..=63).step_by(4).chain(65..=73).collect();
+    assert_eq!(listing(&table, 3, 24), third);
+    assert_eq!(table.unload(3), Ok(25));
+    assert_eq!(table.documents.len(), 39);
 }
 
 #[test]
