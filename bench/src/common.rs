@@ -1,4 +1,5 @@
-//! Random numbers and medians.
+//! Random numbers and medians. Not every program here takes both.
+#![allow(dead_code)]
 pub struct Rng(pub u64);
 impl Rng {
     pub fn next(&mut self) -> u64 { self.0 ^= self.0 << 13; self.0 ^= self.0 >> 7; self.0 ^= self.0 << 17; self.0.wrapping_mul(0x2545F4914F6CDD1D) >> 11 }

@@ -16,7 +16,7 @@ fn tidy(s: &[u8], out: &mut [u8]) -> u64 { unsafe { speed_tidy(s.as_ptr(), s.len
 fn settle(s: &[u8], run: &mut [u8]) -> u64 { unsafe { speed_settle(s.as_ptr(), s.len(), run.as_mut_ptr(), run.len()) } }
 fn admits(d: &[u8], feature: u32, asked: u32, h: &[u8]) -> u32 { unsafe { speed_admits(d.as_ptr(), d.len(), feature, asked, h.as_ptr(), h.len()) } }
 
-const LIMIT: usize = 1024;
+const LIMIT: usize = 4096;
 const ROOM: usize = 85 + LIMIT;
 
 /// A header whose one list has so many expressions, short enough for the limit.

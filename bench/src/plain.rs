@@ -1,4 +1,5 @@
 //! What the proved library does, in plain Rust: a header parsed into lists, and whether a list admits an origin.
+#![allow(dead_code)]
 
 pub const NAMES: [&str; 17] = [
     "camera", "display-capture", "downloads-without-user-activation", "forms", "fullscreen", "geolocation", "microphone", "modals",
@@ -7,6 +8,10 @@ pub const NAMES: [&str; 17] = [
 
 #[derive(Clone, Copy, PartialEq, Debug)]
 pub enum Scheme { Http, Https }
+
+impl Scheme {
+    pub fn default_port(self) -> u16 { match self { Scheme::Http => 80, Scheme::Https => 443 } }
+}
 
 #[derive(Clone, PartialEq, Debug)]
 pub enum Host { None, Any, Exact(String), Subdomains(String) }
@@ -20,9 +25,10 @@ pub struct Expression { pub scheme: Scheme, pub host: Host, pub port: Port }
 #[derive(Clone, PartialEq, Debug)]
 pub enum Allowlist { All, Listed { own: bool, expressions: Vec<Expression> } }
 
+#[derive(Clone, Copy)]
 pub struct Origin<'a> { pub scheme: Scheme, pub host: &'a [u8], pub port: u16 }
 
-fn is_host(h: &[u8]) -> bool {
+pub fn is_host(h: &[u8]) -> bool {
     !h.is_empty() && h.len() <= 253 && h.split(|b| *b == b'.').all(|l| !l.is_empty() && l.iter().all(|b| b.is_ascii_lowercase() || b.is_ascii_digit() || *b == b'-'))
 }
 
@@ -50,7 +56,7 @@ pub fn expression(s: &[u8]) -> Option<Expression> {
 impl Expression {
     pub fn admits(&self, o: &Origin) -> bool {
         if self.scheme == Scheme::Https && o.scheme == Scheme::Http { return false; }
-        let port = || match self.port { Port::Default => o.port == if o.scheme == Scheme::Http { 80 } else { 443 }, Port::Any => true, Port::Number(n) => n == o.port };
+        let port = || match self.port { Port::Default => o.port == o.scheme.default_port(), Port::Any => true, Port::Number(n) => n == o.port };
         match &self.host {
             Host::None => true,
             Host::Any => port(),

@@ -8,7 +8,7 @@ use lib.Dec.{eqb}
 use lib.ListN.{length, getD, take, drop, length-take, length-drop}
 use lib.Seq.{length-take-le, drop-at, take-append-add}
 use Rattle.writing.specs.Writing.{withText}
-use Rattle.limits.specs.Limits.{documentLimit}
+use Rattle.limits.specs.Limits.{textBytes, documentLimit}
 use Rattle.lent_bytes.specs.Numbers.{numberAt, bytesAt, numbersIn, numberBytes}
 use Rattle.lent_bytes.proofs.Laws.{put-long, number-of, number-below, number-above, part-here, part-below, part-above, part-put, with-append, bytes-append, number-bytes-long}
 use Rattle.features.specs.Features.{featureCount}
@@ -27,11 +27,12 @@ use Rattle.document_model.proofs.Laws.{values-same}
 use Rattle.document_model.proofs.Parts.{declared-by}
 use Rattle.document_records.specs.Slots.{slotBytes, originBytes, settledLimit, everywherePlace, enabledPlace, depthPlace, inheritedPlace, opaquePlace, ownLengthPlace, sandboxedPlace, abovePlace, ownTextPlace, settledPlace, depthIn, aboveBytes, ownLength, ownText, ownNumber, ownOrigin, originBy, originBytesOf, originNumber, isSandboxedIn, settledIn, documentIn, slotPolicy, Kept, GoodSlot}
 use Rattle.document_records.proofs.Laws.{document-parts, document-policy}
-use Rattle.document_loads.specs.Slots.{markOf, frontOf, decisionsOf, described, written, numbersOf, Fits, frontPut, PutsHeader, decided, KeptOrigin, IsNewDocument, Written, Writes}
+use Rattle.document_loads.specs.Slots.{markNumber, frontOf, decisionsOf, described, written, headerBytes, numbersOf, Fits, frontPut, PutsHeader, withDecisions, KeptOrigin, IsNewDocument, Written, Writes}
 use Rattle.document_loads.specs.declared.NewDocument.{NewDocument}
+use Rattle.document_loads.proofs.Putting.{header-is}
 
 abbrev five : Identity → ℕ → List ℕ
-five i m = length (i .above) ∷ m ∷ originNumber (i .origin) ∷ length (originBytesOf (i .origin)) ∷ markOf (i .sandboxed) ∷ []
+five i m = length (i .above) ∷ m ∷ originNumber (i .origin) ∷ length (originBytesOf (i .origin)) ∷ markNumber (i .sandboxed) ∷ []
 
 -- what of a document has room in a slot and is read back
 pub record Fitting (i : Identity) (m : ℕ) : Type 0 where
@@ -42,11 +43,11 @@ pub record Fitting (i : Identity) (m : ℕ) : Type 0 where
   pub number : originNumber (i .origin) < 2 ^ 32
   pub bits : m < 2 ^ 32
 
-mark-small : (b : Bool) → markOf b < 2 ^ 32
+mark-small : (b : Bool) → markNumber b < 2 ^ 32
 mark-small true = omega arith
 mark-small false = omega arith
 
-mark-back : (b : Bool) → not (eqb (markOf b) 0) ≡ b
+mark-back : (b : Bool) → not (eqb (markNumber b) 0) ≡ b
 mark-back true = refl
 mark-back false = refl
 
@@ -98,7 +99,7 @@ module _ (slot : List ℕ) (i : Identity) (m : ℕ) (h : Text) (long : slotBytes
   length-own : ownLength (described slot i m h) ≡ length (originBytesOf (i .origin))
   length-own = let t = f .text in number-is 3 (omega arith) (omega arith)
 
-  mark-is : numberAt (described slot i m h) sandboxedPlace ≡ markOf (i .sandboxed)
+  mark-is : numberAt (described slot i m h) sandboxedPlace ≡ markNumber (i .sandboxed)
   mark-is = number-is 4 (omega arith) (mark-small (i .sandboxed))
 
   above-is : aboveBytes (described slot i m h) ≡ numberBytes (i .above)
@@ -169,7 +170,7 @@ module _ (s t : List ℕ) (x y : ℕ) (e : t ≡ withText s everywherePlace (num
 
 -- ---- the whole
 
-module _ (slot : List ℕ) (i : Identity) (m : ℕ) (h : Text) (long : slotBytes ≤ length slot) (f : Fitting i m) (short : length (settledBytes h) ≤ settledLimit) (t : List ℕ) (is : t ≡ decided (described slot i m h)) (few : length (i .above) < documentLimit) where
+module _ (slot : List ℕ) (i : Identity) (m : ℕ) (h : Text) (long : slotBytes ≤ length slot) (f : Fitting i m) (short : length (settledBytes h) ≤ settledLimit) (t : List ℕ) (is : t ≡ withDecisions (described slot i m h)) (few : length (i .above) < documentLimit) where
   whole : documentIn (i .serial) (described slot i m h) ≡ record { identity = i; inherited = m; declared = declaredBy h }
   whole = described-document slot i m h long f short (i .serial) refl
 
@@ -245,8 +246,8 @@ module _ (slot s1 s2 h : List ℕ) (d : NewDocument) (r : Bool) (long : slotByte
   raw-number k lt small =
       let a = withText slot depthPlace (numberBytes (numbersOf d)) in
       let b = withText (withText slot depthPlace (numberBytes (numbersOf d))) abovePlace (take (4 * d .depth) (d .above)) in
-      ap (λ (l : List ℕ). numberAt l (depthPlace + 4 * k)) (e2 .is ∙ ap (λ (l : List ℕ). withText l settledPlace (settledBytes h)) e1)
-      ∙ (number-below (frontPut slot d) (settledBytes h) settledPlace (depthPlace + 4 * k) (omega arith)
+      ap (λ (l : List ℕ). numberAt l (depthPlace + 4 * k)) (e2 .is ∙ ap (λ (l : List ℕ). withText l settledPlace (headerBytes h)) e1)
+      ∙ (number-below (frontPut slot d) (headerBytes h) settledPlace (depthPlace + 4 * k) (omega arith)
       ∙ (number-below b (take (d .length) (d .text)) ownTextPlace (depthPlace + 4 * k) (omega arith)
       ∙ (number-below a (take (4 * d .depth) (d .above)) abovePlace (depthPlace + 4 * k) (omega arith)
       ∙ number-of (numbersOf d) slot depthPlace k (omega arith) (omega arith) small)))
@@ -255,7 +256,7 @@ module _ (slot s1 s2 h : List ℕ) (d : NewDocument) (r : Bool) (long : slotByte
   two-long =
       let a = withText slot depthPlace (numberBytes (numbersOf d)) in
       let b = withText (withText slot depthPlace (numberBytes (numbersOf d))) abovePlace (take (4 * d .depth) (d .above)) in
-      ap length (e2 .is) ∙ (put-long s1 settledPlace (settledBytes h) ∙ (ap length e1 ∙ (put-long b ownTextPlace (take (d .length) (d .text)) ∙ (put-long a abovePlace (take (4 * d .depth) (d .above)) ∙ one-long))))
+      ap length (e2 .is) ∙ (put-long s1 settledPlace (headerBytes h) ∙ (ap length e1 ∙ (put-long b ownTextPlace (take (d .length) (d .text)) ∙ (put-long a abovePlace (take (4 * d .depth) (d .above)) ∙ one-long))))
 
   pub raw-kept : Kept s2
   raw-kept =
@@ -268,11 +269,11 @@ module _ (slot s1 s2 h : List ℕ) (d : NewDocument) (r : Bool) (long : slotByte
         depth = let x : depthIn s2 ≡ d .depth = raw-number 0 (omega arith) (omega arith) in omega arith;
       }
 
-  module _ (s3 : List ℕ) (e3 : s3 ≡ decided s2) where
-    raw-described : (i : Identity) (m : ℕ) → IsNewDocument i m d → s2 ≡ described slot i m h
-    raw-described i m n =
+  module _ (s3 : List ℕ) (e3 : s3 ≡ withDecisions s2) where
+    raw-described : (i : Identity) (m : ℕ) → IsNewDocument i m d → length h ≤ textBytes → s2 ≡ described slot i m h
+    raw-described i m n le =
         let numbers : numbersOf d ≡ five i m = rw (n .depth, n .inherited, n .origin .number, n .text, n .sandboxed) refl in
-        e2 .is
+        (e2 .is ∙ ap (withText s1 settledPlace) (header-is h le .0))
         ∙ ap (λ (l : List ℕ). withText l settledPlace (settledBytes h))
         (e1 ∙ (rw (numbers, n .above, n .origin .bytes) refl ∙ ap (λ (l : List ℕ). withText l ownTextPlace (originBytesOf (i .origin))) (joined slot i m)))
 
@@ -292,8 +293,8 @@ module _ (slot s1 s2 h : List ℕ) (d : NewDocument) (r : Bool) (long : slotByte
     pub writes-is : Writes slot d h s3 r
     writes-is =
         record {
-          is = e3 ∙ ap decided (e2 .is ∙ ap (λ (l : List ℕ). withText l settledPlace (settledBytes h)) e1);
-          says = λ i m n few. is-written slot i m h long (fitting i m n) (e2 .short) s3 (e3 ∙ ap decided (raw-described i m n)) few;
+          is = e3 ∙ ap withDecisions (e2 .is ∙ ap (λ (l : List ℕ). withText l settledPlace (headerBytes h)) e1);
+          says = λ i m n few le. is-written slot i m h long (fitting i m n) (rw (header-is h le .0) at (e2 .short)) s3 (e3 ∙ ap withDecisions (raw-described i m n le)) few;
           long = ap length e3 ∙ (put-long s2 everywherePlace (numberBytes (decisionsOf (slotPolicy s2))) ∙ two-long);
           malformed = e2 .malformed;
         }

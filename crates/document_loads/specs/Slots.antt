@@ -3,9 +3,11 @@ use Prim.Native.Nat.{ℕ, _*_, _+_, _≤_, _<_, _^_}
 use mathlib.Core.Path.{_≡_}
 use mathlib.Core.Bool.{Bool, true, false}
 use mathlib.Core.List.{List, [], _∷_}
+use lib.Dec.{leb}
 use lib.ListN.{length, take, replicate}
+use Rattle.ascii.specs.Bytes.{pick}
 use Rattle.writing.specs.Writing.{withText}
-use Rattle.limits.specs.Limits.{documentLimit}
+use Rattle.limits.specs.Limits.{textBytes, documentLimit}
 use Rattle.lent_bytes.specs.Numbers.{numbersIn, numberBytes}
 use Rattle.origins.specs.Origins.{Origin, originOf}
 use Rattle.origins.specs.Origins.Origin.{fresh}
@@ -17,9 +19,9 @@ use Rattle.document_model.specs.Model.{Text, Identity, Document, declaredBy, po
 use Rattle.document_records.specs.Slots.{originBytes, settledLimit, everywherePlace, depthPlace, abovePlace, ownTextPlace, settledPlace, originBy, originBytesOf, originNumber, documentIn, slotPolicy, GoodSlot}
 use Rattle.document_loads.specs.declared.NewDocument.{NewDocument}
 
-abbrev pub markOf : Bool → ℕ
-markOf true = 1
-markOf false = 0
+abbrev pub markNumber : Bool → ℕ
+markNumber true = 1
+markNumber false = 0
 
 -- a text at the front of so many bytes, 0 in the places after it
 abbrev pub filled : ℕ → List ℕ → List ℕ
@@ -27,9 +29,9 @@ filled n t = withText (replicate n 0) 0 t
 
 -- ---- by the document of the model
 
--- how many serials stand above it, what it inherits, the number of its origin, the length of that one's text, whether it is sandboxed, and the serials
+-- one list, since the serials stand right behind the numbers: how many serials stand above it, what it inherits, the number of its origin, the length of that one's text, whether it is sandboxed, and the serials
 abbrev pub frontOf : Identity → ℕ → List ℕ
-frontOf i inherited = length (i .above) ∷ inherited ∷ originNumber (i .origin) ∷ length (originBytesOf (i .origin)) ∷ markOf (i .sandboxed) ∷ i .above
+frontOf i inherited = length (i .above) ∷ inherited ∷ originNumber (i .origin) ∷ length (originBytesOf (i .origin)) ∷ markNumber (i .sandboxed) ∷ i .above
 
 -- its two numbers of decisions
 abbrev pub decisionsOf : Policy → List ℕ
@@ -46,7 +48,7 @@ written slot d h = withText (described slot (d .identity) (d .inherited) h) ever
 -- ---- by the code's values
 
 abbrev pub numbersOf : NewDocument → List ℕ
-numbersOf d = d .depth ∷ d .inherited ∷ d .number ∷ d .length ∷ markOf (d .sandboxed) ∷ []
+numbersOf d = d .depth ∷ d .inherited ∷ d .number ∷ d .length ∷ markNumber (d .sandboxed) ∷ []
 
 -- its parts have room
 pub record Fits (d : NewDocument) : Type 0 where
@@ -58,13 +60,20 @@ pub record Fits (d : NewDocument) : Type 0 where
 abbrev pub frontPut : List ℕ → NewDocument → List ℕ
 frontPut slot d = withText (withText (withText slot depthPlace (numberBytes (numbersOf d))) abovePlace (take (4 * d .depth) (d .above))) ownTextPlace (take (d .length) (d .text))
 
-pub record PutsHeader (before : List ℕ) (h : Text) (after : List ℕ) (r : Bool) : Type 0 where
-  pub is : after ≡ withText before settledPlace (settledBytes h)
-  pub short : length (settledBytes h) ≤ settledLimit
-  pub malformed : r ≡ isMalformed h
+-- what a header is settled into; one over the limit, which no call hands on, into nothing
+abbrev pub headerBytes : Text → List ℕ
+headerBytes h = pick (leb (length h) textBytes) (settledBytes h) []
 
-abbrev pub decided : List ℕ → List ℕ
-decided slot = withText slot everywherePlace (numberBytes (decisionsOf (slotPolicy slot)))
+abbrev pub headerMalformed : Text → Bool
+headerMalformed h = pick (leb (length h) textBytes) (isMalformed h) true
+
+pub record PutsHeader (before : List ℕ) (h : Text) (after : List ℕ) (r : Bool) : Type 0 where
+  pub is : after ≡ withText before settledPlace (headerBytes h)
+  pub short : length (headerBytes h) ≤ settledLimit
+  pub malformed : r ≡ headerMalformed h
+
+abbrev pub withDecisions : List ℕ → List ℕ
+withDecisions slot = withText slot everywherePlace (numberBytes (decisionsOf (slotPolicy slot)))
 
 -- ---- a document that a load makes
 
@@ -96,9 +105,9 @@ pub record Written (before : List ℕ) (i : Identity) (inherited : ℕ) (h : Tex
   pub good : GoodSlot after
   pub says : documentIn (i .serial) after ≡ record { identity = i; inherited = inherited; declared = declaredBy h }
 
--- every byte by the code's values; and for every identity of which they are, with room for one more above
+-- every byte by the code's values; and what the slot says, for every identity that they describe, with room for one more above, and a header within the limit
 pub record Writes (before : List ℕ) (d : NewDocument) (h : Text) (after : List ℕ) (r : Bool) : Type 0 where
-  pub is : after ≡ decided (withText (frontPut before d) settledPlace (settledBytes h))
-  pub says : (i : Identity) (inherited : ℕ) → IsNewDocument i inherited d → length (i .above) < documentLimit → Written before i inherited h after
+  pub is : after ≡ withDecisions (withText (frontPut before d) settledPlace (headerBytes h))
+  pub says : (i : Identity) (inherited : ℕ) → IsNewDocument i inherited d → length (i .above) < documentLimit → length h ≤ textBytes → Written before i inherited h after
   pub long : length after ≡ length before
-  pub malformed : r ≡ isMalformed h
+  pub malformed : r ≡ headerMalformed h

@@ -4,13 +4,13 @@ ghost use mathlib.Core.List.{_++_};
 ghost use Prim.Native.Nat.{_+_, _*_, _^_, _≤_, _<_};
 ghost use lib.ListN.{length};
 ghost use Rattle.writing.specs.Writing.{withText};
-ghost use Rattle.limits.specs.Limits.{textBytes, documentLimit};
+ghost use Rattle.limits.specs.Limits.{documentLimit};
 ghost use Rattle.lent_bytes.specs.Numbers.{bytesOf, numberBytes};
 ghost use Rattle.origins.specs.Origins.{originOf};
 ghost use Rattle.origins.specs.Answers.{originAs};
 ghost use Rattle.document_records.specs.Slots.{slotBytes, originBytes, depthPlace, aboveBytes, Kept, GoodSlot};
 ghost use Rattle.document_loads.specs.Loads.{attributes, Arrives, IsTopDocument, IsFramedDocument, Foretells};
-ghost use Rattle.document_loads.specs.Slots.{filled, numbersOf, markOf, frontPut, decided, PutsHeader, Fits, Writes};
+ghost use Rattle.document_loads.specs.Slots.{filled, numbersOf, markNumber, frontPut, withDecisions, PutsHeader, Fits, Writes};
 use containers::DeclaredOrigin;
 use document_records::ORIGIN_BYTES;
 use lent_bytes::NUMBER;
@@ -28,8 +28,8 @@ pub struct FrameMarks {
 // Bytes of the serials above a document.
 const ABOVE_BYTES: usize = NUMBER * DOCUMENTS;
 
-// A document that is loaded, but for its header: the serials above it as they stand in a slot, and how many they are; the text of its origin, its length, and a number; whether it is
-// sandboxed; what it inherits, bit n for feature n.
+// A document that is loaded, but for its header: the serials above it as they stand in a slot, and how many they are; the text of its origin, its length, and the number of an opaque one
+// (0 for a tuple); whether it is sandboxed; what it inherits, bit n for feature n.
 pub struct NewDocument {
     pub above: [u8; ABOVE_BYTES],
     pub depth: u32,
@@ -209,7 +209,7 @@ pub fn framed_document(
 }
 
 fn mark(yes: bool) -> u32
-    ensures { λ r. ⌜ r ≡ markOf yes ⌝ }
+    ensures { λ r. ⌜ r ≡ markNumber yes ⌝ }
 {
     if yes { 1 } else { 0 }
 }
@@ -240,9 +240,9 @@ fn put_front(slot: &mut [u8], d: NewDocument)
     lent_bytes::put_text(slot, document_records::OWN_TEXT, &text[..m]);
 }
 
-// Settles a header into a slot; whether it was malformed.
+// Settles a header into a slot; whether it was malformed, as one over the limit counts.
 fn put_header(slot: &mut [u8], header: &[u8]) -> bool
-    requires { ⌜ (slotBytes ≤ length (now slot)) × (length (now header) ≤ textBytes) ⌝ }
+    requires { ⌜ slotBytes ≤ length (now slot) ⌝ }
     ensures { λ r. ⌜ PutsHeader (now (slot .entry)) (now (header .entry)) (now (slot .exit)) r ⌝ }
 {
     let from = document_records::SETTLED;
@@ -257,7 +257,7 @@ fn put_header(slot: &mut [u8], header: &[u8]) -> bool
 // Puts the two numbers of decisions into a slot.
 fn put_decisions(slot: &mut [u8])
     requires { ⌜ Kept (now slot) ⌝ }
-    ensures { λ _. ⌜ now (slot .exit) ≡ decided (now (slot .entry)) ⌝ }
+    ensures { λ _. ⌜ now (slot .exit) ≡ withDecisions (now (slot .entry)) ⌝ }
 {
     let everywhere = document_records::everywhere_of(slot);
     let enabled = document_records::enabled_of(slot);
@@ -267,7 +267,7 @@ fn put_decisions(slot: &mut [u8])
 
 // Writes a document with a header into a slot; whether the header was malformed.
 pub fn write_document(slot: &mut [u8], d: NewDocument, header: &[u8]) -> bool
-    requires { ⌜ (slotBytes ≤ length (now slot)) × Fits d × (length (now header) ≤ textBytes) ⌝ }
+    requires { ⌜ (slotBytes ≤ length (now slot)) × Fits d ⌝ }
     ensures { λ r. ⌜ Writes (now (slot .entry)) d (now (header .entry)) (now (slot .exit)) r ⌝ }
 {
     put_front(slot, d);

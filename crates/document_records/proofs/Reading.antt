@@ -83,17 +83,17 @@ module _ (slot u : List ℕ) (x : OriginText) (eu : u ≡ ownText slot) (read : 
   says = read ∙ ap (λ (l : List ℕ). originAs (originOf l)) eu
 
   pub range-tuple : (q : TupleRange) → x ≡ said.Tuple q → IsOwnRange slot (range.Tuple q)
-  range-tuple q e = record { is = own-tuple (ownText slot) q (originOf (ownText slot)) (numberAt slot opaquePlace) refl (sym e ∙ says) }
+  range-tuple q e = record { which = rw (← says, e) refl; is = own-tuple (ownText slot) q (originOf (ownText slot)) (numberAt slot opaquePlace) refl (sym e ∙ says) }
 
   module _ (m : ℕ) (em : m ≡ numberAt slot opaquePlace) where
     pub range-empty : x ≡ said.Empty → IsOwnRange slot (range.Opaque m)
-    range-empty e = record { is = rw em (own-empty (originOf (ownText slot)) (numberAt slot opaquePlace) (sym e ∙ says)) }
+    range-empty e = record { which = rw (← says, e, em) refl; is = rw em (own-empty (originOf (ownText slot)) (numberAt slot opaquePlace) (sym e ∙ says)) }
 
     pub range-null : x ≡ said.Null → IsOwnRange slot (range.Opaque m)
-    range-null e = record { is = rw em (own-null (originOf (ownText slot)) (numberAt slot opaquePlace) (sym e ∙ says)) }
+    range-null e = record { which = rw (← says, e, em) refl; is = rw em (own-null (originOf (ownText slot)) (numberAt slot opaquePlace) (sym e ∙ says)) }
 
     pub range-none : x ≡ said.NotAnOrigin → IsOwnRange slot (range.Opaque m)
-    range-none e = record { is = rw em (own-none (originOf (ownText slot)) (numberAt slot opaquePlace) (sym e ∙ says)) }
+    range-none e = record { which = rw (← says, e, em) refl; is = rw em (own-none (originOf (ownText slot)) (numberAt slot opaquePlace) (sym e ∙ says)) }
 
 pub ruleset ranges = (range-tuple, range-empty, range-null, range-none)
 

@@ -5,9 +5,12 @@ use mathlib.Core.Bool.{Bool, false}
 use mathlib.Core.List.{List}
 use mathlib.Core.Option.{Option, some, none}
 use Rattle.features.specs.Features.{defaultOf}
-use Rattle.origins.specs.Origins.{Origin}
+use Rattle.origins.specs.Origins.{Origin, originOf}
 use Rattle.origins.specs.Matching.{sameOrigin}
-use Rattle.origins.specs.Answers.{originIn}
+use Rattle.origins.specs.Answers.{originAs, originIn}
+use Rattle.origins.specs.declared.OriginText.{OriginText}
+use Rattle.origins.specs.declared.OriginText.the-variants as said
+use Rattle.origins.specs.declared.OriginRange.the-variants as range
 use Rattle.origins.specs.declared.OriginRange.{OriginRange}
 use Rattle.allowlists.specs.Allowlists.{Allowlist, someAdmits}
 use Rattle.allowlists.specs.Answers.{admissionAs}
@@ -18,11 +21,19 @@ use Rattle.decisions.specs.Policies.{Policy, Frame, inheritedFramed, valueIn, i
 use Rattle.containers.specs.Policies.{attributePolicy}
 use Rattle.containers.specs.Answers.{declaredIn as declaredOriginIn}
 use Rattle.containers.specs.declared.DeclaredOrigin.{DeclaredOrigin}
-use Rattle.document_records.specs.Slots.{ownText, ownOrigin, slotPolicy}
+use Rattle.document_records.specs.Slots.{ownText, ownNumber, ownOrigin, slotPolicy}
 use Rattle.document_records.specs.declared.Arriving.{Arriving}
+
+-- an origin by what its text was read as; without a tuple it is opaque, by a number
+abbrev pub rangeBy : OriginText → ℕ → OriginRange
+rangeBy said.Empty n = range.Opaque n
+rangeBy said.Null n = range.Opaque n
+rangeBy (said.Tuple r) n = range.Tuple r
+rangeBy said.NotAnOrigin n = range.Opaque n
 
 -- the document's origin, beside its text
 pub record IsOwnRange (slot : List ℕ) (r : OriginRange) : Type 0 where
+  pub which : r ≡ rangeBy (originAs (originOf (ownText slot))) (ownNumber slot)
   pub is : originIn (ownText slot) r ≡ ownOrigin slot
 
 -- what the declared list answers for an origin, told whether it is the document's own

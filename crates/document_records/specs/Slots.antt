@@ -1,4 +1,4 @@
--- A slot of the table: fixed bytes for a document. `documentIn` is the only definition that knows where a document's data stand in its slot; the places are stated here alone.
+-- A slot of the table: fixed bytes for a document. `documentIn` reads a slot, `document_loads/specs/Slots: written` writes one; the places are stated here alone.
 use Prim.Native.Nat.{ℕ, _+_, _*_, _≤_, _<_}
 use mathlib.Core.Path.{_≡_}
 use mathlib.Core.Bool.{Bool, not}

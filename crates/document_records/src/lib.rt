@@ -121,7 +121,7 @@ pub fn own_range(slot: &[u8]) -> OriginRange
 }
 
 // Whether an origin is the document's own.
-pub fn is_own(slot: &[u8], t: &[u8], o: OriginRange) -> bool
+fn is_own(slot: &[u8], t: &[u8], o: OriginRange) -> bool
     requires { ⌜ Kept (now slot) ⌝ }
     ensures { λ r. ⌜ r ≡ sameOrigin (ownOrigin (now (slot .entry))) (originIn (now (t .entry)) o) ⌝ }
 {

@@ -24,7 +24,7 @@ use Rattle.document_records.specs.Slots.{slotBytes, documentIn}
 use Rattle.document_table.specs.Layout.{tableBytes, countIn, lastIn, serialAt, slotNumber, slotOf, docAt, docsIn, view, newRun, loadedRun}
 use Rattle.document_table.specs.Tables.{Sound}
 use Rattle.document_table.proofs.Laws.{docs-length, docs-are, doc-serial, loaded-sound, loaded-docs, loaded-last}
-use Rattle.document_loads.specs.Slots.{described, decided, written, Written}
+use Rattle.document_loads.specs.Slots.{described, withDecisions, written, Written}
 use Rattle.document_loads.proofs.Written.{Fitting, is-written}
 use Rattle.documents.specs.declared.QuestionAnswer.{QuestionAnswer}
 use Rattle.documents.specs.declared.QuestionAnswer.the-variants as asked
@@ -163,8 +163,8 @@ removed-next s t v x e removed-is =
 abbrev freeSlot : List ℕ → List ℕ
 freeSlot t = slotOf t (slotNumber t (countIn t))
 
-abbrev filled : List ℕ → Identity → ℕ → Text → List ℕ
-filled t i m h = decided (described (freeSlot t) i m h)
+abbrev loadedSlot : List ℕ → Identity → ℕ → Text → List ℕ
+loadedSlot t i m h = withDecisions (described (freeSlot t) i m h)
 
 free-long : (t : List ℕ) → HasRoom t → length (freeSlot t) ≡ slotBytes
 free-long t has =
@@ -172,16 +172,16 @@ free-long t has =
     let k = has .sound .slots (countIn t) (has .room) in
     rw (length-take, length-drop) (omega arith)
 
-is-placed : (t : List ℕ) (i : Identity) (m : ℕ) (h : Text) → HasRoom t → Placeable i m → length h ≤ textBytes → i .serial ≡ suc (lastIn t) → Placed t i m h (loadedRun t (filled t i m h))
+is-placed : (t : List ℕ) (i : Identity) (m : ℕ) (h : Text) → HasRoom t → Placeable i m → length h ≤ textBytes → i .serial ≡ suc (lastIn t) → Placed t i m h (loadedRun t (loadedSlot t i m h))
 is-placed t i m h has f short own =
     let l = free-long t has in
-    let w : Written (freeSlot t) i m h (filled t i m h) = is-written (freeSlot t) i m h (omega arith) (f .0) (let s = settled-most h in omega arith) (filled t i m h) refl (f .1) in
-    let full : length (filled t i m h) ≡ slotBytes = w .long ∙ l in
+    let w : Written (freeSlot t) i m h (loadedSlot t i m h) = is-written (freeSlot t) i m h (omega arith) (f .0) (let s = settled-most h in omega arith) (loadedSlot t i m h) refl (f .1) in
+    let full : length (loadedSlot t i m h) ≡ slotBytes = w .long ∙ l in
     record {
       is = ap (loadedRun t) (w .is);
-      sound = loaded-sound t (filled t i m h) (has .sound) full (has .room) (has .left) (w .good);
-      docs = loaded-docs t (filled t i m h) (has .sound) full (has .room) (has .left) ∙ ap (λ (x : ModelDocument). docsIn t ++ (x ∷ [])) (ap (λ (j : ℕ). documentIn j (filled t i m h)) (sym own) ∙ w .says);
-      last = loaded-last t (filled t i m h) (has .sound) full (has .room) (has .left);
+      sound = loaded-sound t (loadedSlot t i m h) (has .sound) full (has .room) (has .left) (w .good);
+      docs = loaded-docs t (loadedSlot t i m h) (has .sound) full (has .room) (has .left) ∙ ap (λ (x : ModelDocument). docsIn t ++ (x ∷ [])) (ap (λ (j : ℕ). documentIn j (loadedSlot t i m h)) (sym own) ∙ w .says);
+      last = loaded-last t (loadedSlot t i m h) (has .sound) full (has .room) (has .left);
     }
 
 record LoadedNext (c : Call) (t : List ℕ) : Type 0 where
@@ -197,17 +197,17 @@ pushed-next c t h v changes x e (pushed-is m i b f own short room spent) =
     let count : countIn t < documentLimit = omega (arith, docs-length t) in
     let last : lastIn t < lastSerial = omega arith in
     let has : HasRoom t = record { sound = v .sound; room = count; left = last } in
-    let p : Placed t i b h (loadedRun t (filled t i b h)) = is-placed t i b h has f short own in
-    let docs : docsIn (loadedRun t (filled t i b h)) ≡ docsIn t ++ (record { identity = i; inherited = b; declared = declaredBy h } ∷ []) = p .docs in
-    let next : suc (lastIn (loadedRun t (filled t i b h))) ≡ suc (suc (lastIn t)) = ap suc (p .last ∙ add-one (lastIn t)) in
-    let seen : view (loadedRun t (filled t i b h)) ≡ after = cc in
-    let left : view (loadedRun t (filled t i b h)) ≡ tableLeft c (view t) = seen ∙ sym (table-of c (view t) (accept (loaded (suc (lastIn t)) m) after) e) in
+    let p : Placed t i b h (loadedRun t (loadedSlot t i b h)) = is-placed t i b h has f short own in
+    let docs : docsIn (loadedRun t (loadedSlot t i b h)) ≡ docsIn t ++ (record { identity = i; inherited = b; declared = declaredBy h } ∷ []) = p .docs in
+    let next : suc (lastIn (loadedRun t (loadedSlot t i b h))) ≡ suc (suc (lastIn t)) = ap suc (p .last ∙ add-one (lastIn t)) in
+    let seen : view (loadedRun t (loadedSlot t i b h)) ≡ after = cc in
+    let left : view (loadedRun t (loadedSlot t i b h)) ≡ tableLeft c (view t) = seen ∙ sym (table-of c (view t) (accept (loaded (suc (lastIn t)) m) after) e) in
     record {
       answer = loading.Loaded (record { serial = suc (lastIn t); malformed = m });
-      after = loadedRun t (filled t i b h);
+      after = loadedRun t (loadedSlot t i b h);
       is =
           record {
-            valid = valid-next c t (loadedRun t (filled t i b h)) v (p .sound) left;
+            valid = valid-next c t (loadedRun t (loadedSlot t i b h)) v (p .sound) left;
             answer = sym (answer-of c (view t) (accept (loaded (suc (lastIn t)) m) after) e);
             table = left;
             bytes =
@@ -256,7 +256,7 @@ zeros-long : (n : ℕ) → n ≤ length (zeros n)
 unfolding zeros
 zeros-long n = omega (arith, length-replicate {A = ℕ} n 0)
 
--- what the code answers: the answers of a run over the calls
+-- what the code answers: the answers of a run over the calls, which all runs have (`every-run`)
 pub codeAnswers : List Call → List Answer
 codeAnswers cs = run-from (zeros tableBytes) (zeros-long tableBytes) cs .said
 

@@ -20,7 +20,7 @@ use Rattle.documents.specs.declared.LoadAnswer.{LoadAnswer}
 use Rattle.documents.specs.declared.UnloadAnswer.{UnloadAnswer}
 use Rattle.documents.specs.Answers.{questionIn, featuresIn, loadIn, unloadIn, listingIn, IsNew, Decides, TellsFeatures, Loads, Unloads, Lists}
 
--- one call in code: what its function ensures, with the bytes of the table that it got, its answer, the lent run of numbers afterwards (empty where none is lent) and the bytes of the table that it left
+-- one call in code: an instance of what its function ensures (the bounds of counts aside), with the bytes of the table that it got, its answer, the lent run of numbers afterwards (empty where none is lent) and the bytes of the table that it left
 pub data Step : Call → List ℕ → Answer → List ℕ → List ℕ → Type 0 where
   load-top : {h o : Text} {t u : List ℕ} (r : LoadAnswer) → Loads (topLoad h o) t u r → Step (topLoad h o) t (loadIn r) [] u
   load-framed : {c : ℕ} {h o : Text} {a : Attributes} {t u : List ℕ} (r : LoadAnswer) → Loads (framedLoad c h o a) t u r → Step (framedLoad c h o a) t (loadIn r) [] u

@@ -8,18 +8,18 @@ use native.Mathlib.Nat.{eq-or-lt-of-le}
 use native.Mathlib.Numerals.{add-one}
 use native.Mathlib.Omega.{arith}
 use lib.Dec.{eqb}
-use lib.ListN.{length, getD, take, length-take, length-drop}
+use lib.ListN.{length, getD, take, drop, length-take, length-drop}
 use Rattle.writing.specs.Writing.{withText}
 use Rattle.limits.specs.Limits.{documentLimit, lastSerial}
 use Rattle.lent_bytes.specs.Numbers.{numberAt, bytesOf, numbersIn, withNumber, bytesAt}
-use Rattle.lent_bytes.proofs.Laws.{put-long, get-here, number-below, part-here}
+use Rattle.lent_bytes.proofs.Laws.{bytes-long, put-long, put-past, get-here, number-below, part-here}
 use Rattle.document_model.specs.Model.{Document, newTable, valuesFrom, elem, isAtOrBeneath}
 use Rattle.document_model.proofs.Laws.{at-or-beneath, values-at, values-length, values-none, values-same, values-snoc}
 use Rattle.document_records.specs.Slots.{slotBytes, aboveBytes, documentIn, GoodSlot}
 use Rattle.document_records.proofs.Laws.{document-serial, document-above}
-use Rattle.document_table.specs.Layout.{markPlace, markBytes, mark, markIn, countPlace, lastPlace, directoryPlace, tableBytes, countIn, lastIn, serialAt, slotNumber, slotPlace, slotOf, docAt, docsIn, view, newRun, withSlot, pushed, loadedRun}
+use Rattle.document_table.specs.Layout.{markPlace, markBytes, mark, markIn, countPlace, lastPlace, slotNumbersPlace, tableBytes, countIn, lastIn, serialAt, slotNumber, slotPlace, slotOf, docAt, docsIn, view, newRun, withSlot, pushed, loadedRun}
 use Rattle.document_table.specs.Tables.{Sound, IsSlot}
-use Rattle.document_table.proofs.Puts.{count-here, count-last, last-count, last-here, with-count, with-last, with-serial, with-number, with-here, with-other, pushed-long, pushed-count, pushed-last, pushed-here, pushed-other, pushed-number, pushed-mark, pushed-slot, behind-mark}
+use Rattle.document_table.proofs.Puts.{count-here, count-last, last-count, last-here, with-count, with-last, with-serial, with-number, with-here, with-other, pushed-long, pushed-count, pushed-last, pushed-here, pushed-other, pushed-number, pushed-mark, pushed-slot, pushed-past, behind-mark}
 
 -- ---- the document at a place
 
@@ -125,6 +125,16 @@ module _ (run slot : List ℕ) (sound : Sound run) (full : length slot ≡ slotB
       let last : docAt (loadedRun run slot) (0 + countIn run) ≡ documentIn (suc (lastIn run)) slot = rw e new-doc in
       rw (loaded-count, add-one (countIn run), values-snoc (docAt (loadedRun run slot)) 0 (countIn run), last, values-same (docAt (loadedRun run slot)) (docAt run) 0 (countIn run) (λ j a b. old-doc j (omega arith))) refl
 
+  -- a load writes one slot
+  pub loaded-slots : (k : ℕ) → (k ≡ slotNumber run (countIn run) → ⊥) → slotOf (loadedRun run slot) k ≡ slotOf run k
+  loaded-slots k ne = loaded-slot k ∙ with-other run slot (slotNumber run (countIn run)) full k ne
+
+  -- and nothing past the table
+  pub loaded-past : drop tableBytes (loadedRun run slot) ≡ drop tableBytes run
+  loaded-past =
+      let f = free in
+      pushed-past (withSlot run (slotNumber run (countIn run)) slot) between-long room-too left-too ∙ put-past run slot (slotPlace (slotNumber run (countIn run))) tableBytes (omega arith)
+
   pub loaded-sound : GoodSlot slot → Sound (loadedRun run slot)
   loaded-sound good =
       let size = sound .long in
@@ -158,26 +168,26 @@ module _ (run : List ℕ) (long : tableBytes ≤ length run) where
   emptied-long = put-long (withNumber (marked run) countPlace 0) lastPlace (bytesOf 0) ∙ (put-long (marked run) countPlace (bytesOf 0) ∙ put-long run markPlace mark)
 
   pub new-long : length (newRun run) ≡ length run
-  new-long = put-long (emptied run) directoryPlace (valuesFrom (λ n. n) 0 documentLimit) ∙ emptied-long
+  new-long = put-long (emptied run) slotNumbersPlace (valuesFrom (λ n. n) 0 documentLimit) ∙ emptied-long
 
   pub new-count : countIn (newRun run) ≡ 0
   new-count =
       let n = put-long run markPlace mark in
-      number-below (emptied run) (valuesFrom (λ n. n) 0 documentLimit) directoryPlace countPlace (omega arith)
+      number-below (emptied run) (valuesFrom (λ n. n) 0 documentLimit) slotNumbersPlace countPlace (omega arith)
       ∙ (last-count (withNumber (marked run) countPlace 0) 0 ∙ count-here (marked run) 0 (omega arith) (omega arith))
 
   pub new-last : lastIn (newRun run) ≡ 0
   new-last =
       let n = put-long (marked run) countPlace (bytesOf 0) in
       let m = put-long run markPlace mark in
-      number-below (emptied run) (valuesFrom (λ n. n) 0 documentLimit) directoryPlace lastPlace (omega arith)
+      number-below (emptied run) (valuesFrom (λ n. n) 0 documentLimit) slotNumbersPlace lastPlace (omega arith)
       ∙ last-here (withNumber (marked run) countPlace 0) 0 (omega arith) (omega arith)
 
   new-mark : markIn (newRun run) ≡ mark
   new-mark =
       let m = mark-long in
       let h : markPlace + length mark ≤ length run = omega arith in
-      behind-mark (emptied run) (valuesFrom (λ n. n) 0 documentLimit) directoryPlace (omega arith)
+      behind-mark (emptied run) (valuesFrom (λ n. n) 0 documentLimit) slotNumbersPlace (omega arith)
       ∙ (behind-mark (withNumber (marked run) countPlace 0) (bytesOf 0) lastPlace (omega arith)
       ∙ (behind-mark (marked run) (bytesOf 0) countPlace (omega arith) ∙ (rw mark-long at (part-here mark run markPlace h))))
 
@@ -185,7 +195,17 @@ module _ (run : List ℕ) (long : tableBytes ≤ length run) where
   new-number j lt =
       let n = emptied-long in
       let m : length (valuesFrom (λ (n : ℕ). n) 0 documentLimit) ≡ documentLimit = values-length (λ n. n) 0 documentLimit in
-      get-here (valuesFrom (λ n. n) 0 documentLimit) (emptied run) directoryPlace j (omega arith) (omega arith) ∙ values-at (λ n. n) documentLimit j 0 lt
+      get-here (valuesFrom (λ n. n) 0 documentLimit) (emptied run) slotNumbersPlace j (omega arith) (omega arith) ∙ values-at (λ n. n) documentLimit j 0 lt
+
+  -- nothing past the table is written
+  pub new-past : drop tableBytes (newRun run) ≡ drop tableBytes run
+  new-past =
+      let m = mark-long in
+      let b = bytes-long 0 in
+      let n : length (valuesFrom (λ (n : ℕ). n) 0 documentLimit) ≡ documentLimit = values-length (λ n. n) 0 documentLimit in
+      put-past (emptied run) (valuesFrom (λ n. n) 0 documentLimit) slotNumbersPlace tableBytes (omega arith)
+      ∙ (put-past (withNumber (marked run) countPlace 0) (bytesOf 0) lastPlace tableBytes (omega arith)
+      ∙ (put-past (marked run) (bytesOf 0) countPlace tableBytes (omega arith) ∙ put-past run mark markPlace tableBytes (omega arith)))
 
   pub new-sound : Sound (newRun run)
   new-sound =

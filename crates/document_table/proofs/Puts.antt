@@ -6,14 +6,14 @@ use mathlib.Core.Bool.{Bool, true, false}
 use Prim.Native.Nat.{ℕ, _+_, _*_, _^_, _<_, _≤_}
 use native.Mathlib.Omega.{arith}
 use lib.Dec.{ltb}
-use lib.ListN.{length, getD}
+use lib.ListN.{length, getD, drop}
 use borrow.Author.Tests.{ltb-true, ltb-false}
 use Rattle.writing.specs.Writing.{withText}
 use Rattle.limits.specs.Limits.{documentLimit, lastSerial}
 use Rattle.lent_bytes.specs.Numbers.{numberAt, bytesOf, withNumber}
-use Rattle.lent_bytes.proofs.Laws.{bytes-long, put-long, get-below, get-above, get-here, number-here, number-below, number-above, part-here, part-below, part-above}
+use Rattle.lent_bytes.proofs.Laws.{bytes-long, put-long, put-past, get-below, get-above, get-here, number-here, number-below, number-above, part-here, part-below, part-above}
 use Rattle.document_records.specs.Slots.{slotBytes}
-use Rattle.document_table.specs.Layout.{markPlace, markBytes, markIn, countPlace, lastPlace, serialsPlace, directoryPlace, slotsPlace, tableBytes, countIn, lastIn, serialAt, slotNumber, slotPlace, slotOf, withSlot, pushed, moved}
+use Rattle.document_table.specs.Layout.{markPlace, markBytes, markIn, countPlace, lastPlace, serialsPlace, slotNumbersPlace, slotsPlace, tableBytes, countIn, lastIn, serialAt, slotNumber, slotPlace, slotOf, withSlot, pushed, moved}
 
 -- two places that differ
 pub before-or-behind : (j k : ℕ) → (j ≡ k → ⊥) → (j < k) ⊎ (k < j)
@@ -57,36 +57,36 @@ module _ (run : List ℕ) (k x : ℕ) (lt : k < documentLimit) where
       (before-or-behind j k ne)
 
   pub serial-number : (j : ℕ) → slotNumber (withNumber run (serialsPlace + 4 * k) x) j ≡ slotNumber run j
-  serial-number j = get-above (bytesOf x) run (serialsPlace + 4 * k) (directoryPlace + j) (omega (arith, bytes-long x))
+  serial-number j = get-above (bytesOf x) run (serialsPlace + 4 * k) (slotNumbersPlace + j) (omega (arith, bytes-long x))
 
   pub serial-slot : (j : ℕ) → slotOf (withNumber run (serialsPlace + 4 * k) x) j ≡ slotOf run j
   serial-slot j = head-slot run (bytesOf x) (serialsPlace + 4 * k) j (omega (arith, bytes-long x))
 
 -- a slot's number
 module _ (run : List ℕ) (k x : ℕ) (lt : k < documentLimit) where
-  pub entry-count : countIn (withText run (directoryPlace + k) (x ∷ [])) ≡ countIn run
-  entry-count = number-below run (x ∷ []) (directoryPlace + k) countPlace (omega arith)
+  pub entry-count : countIn (withText run (slotNumbersPlace + k) (x ∷ [])) ≡ countIn run
+  entry-count = number-below run (x ∷ []) (slotNumbersPlace + k) countPlace (omega arith)
 
-  pub entry-last : lastIn (withText run (directoryPlace + k) (x ∷ [])) ≡ lastIn run
-  entry-last = number-below run (x ∷ []) (directoryPlace + k) lastPlace (omega arith)
+  pub entry-last : lastIn (withText run (slotNumbersPlace + k) (x ∷ [])) ≡ lastIn run
+  entry-last = number-below run (x ∷ []) (slotNumbersPlace + k) lastPlace (omega arith)
 
-  pub entry-serial : (j : ℕ) → j < documentLimit → serialAt (withText run (directoryPlace + k) (x ∷ [])) j ≡ serialAt run j
-  entry-serial j h = number-below run (x ∷ []) (directoryPlace + k) (serialsPlace + 4 * j) (omega arith)
+  pub entry-serial : (j : ℕ) → j < documentLimit → serialAt (withText run (slotNumbersPlace + k) (x ∷ [])) j ≡ serialAt run j
+  entry-serial j h = number-below run (x ∷ []) (slotNumbersPlace + k) (serialsPlace + 4 * j) (omega arith)
 
-  pub entry-here : tableBytes ≤ length run → slotNumber (withText run (directoryPlace + k) (x ∷ [])) k ≡ x
+  pub entry-here : tableBytes ≤ length run → slotNumber (withText run (slotNumbersPlace + k) (x ∷ [])) k ≡ x
   entry-here long =
-      let e : directoryPlace + k + 0 ≡ directoryPlace + k = omega arith in
-      rw e at (get-here (x ∷ []) run (directoryPlace + k) 0 (omega arith) (omega arith))
+      let e : slotNumbersPlace + k + 0 ≡ slotNumbersPlace + k = omega arith in
+      rw e at (get-here (x ∷ []) run (slotNumbersPlace + k) 0 (omega arith) (omega arith))
 
-  pub entry-other : (j : ℕ) → (j ≡ k → ⊥) → slotNumber (withText run (directoryPlace + k) (x ∷ [])) j ≡ slotNumber run j
+  pub entry-other : (j : ℕ) → (j ≡ k → ⊥) → slotNumber (withText run (slotNumbersPlace + k) (x ∷ [])) j ≡ slotNumber run j
   entry-other j ne =
       ⊎-elim
-      (λ (h : j < k). get-below (x ∷ []) run (directoryPlace + k) (directoryPlace + j) (omega arith))
-      (λ (h : k < j). get-above (x ∷ []) run (directoryPlace + k) (directoryPlace + j) (omega arith))
+      (λ (h : j < k). get-below (x ∷ []) run (slotNumbersPlace + k) (slotNumbersPlace + j) (omega arith))
+      (λ (h : k < j). get-above (x ∷ []) run (slotNumbersPlace + k) (slotNumbersPlace + j) (omega arith))
       (before-or-behind j k ne)
 
-  pub entry-slot : (j : ℕ) → slotOf (withText run (directoryPlace + k) (x ∷ [])) j ≡ slotOf run j
-  entry-slot j = head-slot run (x ∷ []) (directoryPlace + k) j (omega arith)
+  pub entry-slot : (j : ℕ) → slotOf (withText run (slotNumbersPlace + k) (x ∷ [])) j ≡ slotOf run j
+  entry-slot j = head-slot run (x ∷ []) (slotNumbersPlace + k) j (omega arith)
 
 -- how many there are, and the last serial
 module _ (run : List ℕ) (x : ℕ) where
@@ -100,7 +100,7 @@ module _ (run : List ℕ) (x : ℕ) where
   count-serial j = number-above run (bytesOf x) countPlace (serialsPlace + 4 * j) (omega (arith, bytes-long x))
 
   pub count-number : (j : ℕ) → slotNumber (withNumber run countPlace x) j ≡ slotNumber run j
-  count-number j = get-above (bytesOf x) run countPlace (directoryPlace + j) (omega (arith, bytes-long x))
+  count-number j = get-above (bytesOf x) run countPlace (slotNumbersPlace + j) (omega (arith, bytes-long x))
 
   pub count-slot : (j : ℕ) → slotOf (withNumber run countPlace x) j ≡ slotOf run j
   count-slot j = head-slot run (bytesOf x) countPlace j (omega (arith, bytes-long x))
@@ -115,7 +115,7 @@ module _ (run : List ℕ) (x : ℕ) where
   last-serial j = number-above run (bytesOf x) lastPlace (serialsPlace + 4 * j) (omega (arith, bytes-long x))
 
   pub last-number : (j : ℕ) → slotNumber (withNumber run lastPlace x) j ≡ slotNumber run j
-  last-number j = get-above (bytesOf x) run lastPlace (directoryPlace + j) (omega (arith, bytes-long x))
+  last-number j = get-above (bytesOf x) run lastPlace (slotNumbersPlace + j) (omega (arith, bytes-long x))
 
   pub last-slot : (j : ℕ) → slotOf (withNumber run lastPlace x) j ≡ slotOf run j
   last-slot j = head-slot run (bytesOf x) lastPlace j (omega (arith, bytes-long x))
@@ -132,7 +132,7 @@ module _ (run slot : List ℕ) (k : ℕ) (full : length slot ≡ slotBytes) wher
   with-serial j h = number-below run slot (slotPlace k) (serialsPlace + 4 * j) (omega arith)
 
   pub with-number : (j : ℕ) → j < documentLimit → slotNumber (withSlot run k slot) j ≡ slotNumber run j
-  with-number j h = get-below slot run (slotPlace k) (directoryPlace + j) (omega arith)
+  with-number j h = get-below slot run (slotPlace k) (slotNumbersPlace + j) (omega arith)
 
   pub with-here : k < documentLimit → tableBytes ≤ length run → slotOf (withSlot run k slot) k ≡ slot
   with-here lt long = let h : slotPlace k + length slot ≤ length run = omega arith in rw full at (part-here slot run (slotPlace k) h)
@@ -184,6 +184,13 @@ module _ (run : List ℕ) (long : tableBytes ≤ length run) (room : countIn run
       behind-mark (twoOf run) (bytesOf (countIn run + 1)) countPlace (omega arith)
       ∙ (behind-mark (oneOf run) (bytesOf (lastIn run + 1)) lastPlace (omega arith) ∙ behind-mark run (bytesOf (lastIn run + 1)) (serialsPlace + 4 * countIn run) (omega arith))
 
+  pub pushed-past : drop tableBytes (pushed run) ≡ drop tableBytes run
+  pushed-past =
+      let a = bytes-long (lastIn run + 1) in
+      let b = bytes-long (countIn run + 1) in
+      put-past (twoOf run) (bytesOf (countIn run + 1)) countPlace tableBytes (omega arith)
+      ∙ (put-past (oneOf run) (bytesOf (lastIn run + 1)) lastPlace tableBytes (omega arith) ∙ put-past run (bytesOf (lastIn run + 1)) (serialsPlace + 4 * countIn run) tableBytes (omega arith))
+
   pub pushed-slot : (j : ℕ) → slotOf (pushed run) j ≡ slotOf run j
   pushed-slot j = count-slot (twoOf run) (countIn run + 1) j ∙ (last-slot (oneOf run) (lastIn run + 1) j ∙ serial-slot run (countIn run) (lastIn run + 1) room j)
 
@@ -192,7 +199,7 @@ abbrev firstOf : List ℕ → ℕ → ℕ → List ℕ
 firstOf run k i = withNumber run (serialsPlace + 4 * k) (serialAt run i)
 
 abbrev secondOf : List ℕ → ℕ → ℕ → List ℕ
-secondOf run k i = withText (firstOf run k i) (directoryPlace + k) (slotNumber run i ∷ [])
+secondOf run k i = withText (firstOf run k i) (slotNumbersPlace + k) (slotNumber run i ∷ [])
 
 module _ (run : List ℕ) (k i : ℕ) (long : tableBytes ≤ length run) (le : k ≤ i) (lt : i < documentLimit) where
   ka : k < documentLimit
@@ -202,11 +209,11 @@ module _ (run : List ℕ) (k i : ℕ) (long : tableBytes ≤ length run) (le : k
   first-long = put-long run (serialsPlace + 4 * k) (bytesOf (serialAt run i))
 
   second-long : length (secondOf run k i) ≡ length run
-  second-long = put-long (firstOf run k i) (directoryPlace + k) (slotNumber run i ∷ []) ∙ first-long
+  second-long = put-long (firstOf run k i) (slotNumbersPlace + k) (slotNumber run i ∷ []) ∙ first-long
 
   pub moved-long : length (moved run k i) ≡ length run
   unfolding moved
-  moved-long = put-long (secondOf run k i) (directoryPlace + i) (slotNumber run k ∷ []) ∙ second-long
+  moved-long = put-long (secondOf run k i) (slotNumbersPlace + i) (slotNumber run k ∷ []) ∙ second-long
 
   pub moved-count : countIn (moved run k i) ≡ countIn run
   unfolding moved
@@ -229,8 +236,15 @@ module _ (run : List ℕ) (k i : ℕ) (long : tableBytes ≤ length run) (le : k
   pub moved-mark : markIn (moved run k i) ≡ markIn run
   unfolding moved
   moved-mark =
-      behind-mark (secondOf run k i) (slotNumber run k ∷ []) (directoryPlace + i) (omega arith)
-      ∙ (behind-mark (firstOf run k i) (slotNumber run i ∷ []) (directoryPlace + k) (omega arith) ∙ behind-mark run (bytesOf (serialAt run i)) (serialsPlace + 4 * k) (omega arith))
+      behind-mark (secondOf run k i) (slotNumber run k ∷ []) (slotNumbersPlace + i) (omega arith)
+      ∙ (behind-mark (firstOf run k i) (slotNumber run i ∷ []) (slotNumbersPlace + k) (omega arith) ∙ behind-mark run (bytesOf (serialAt run i)) (serialsPlace + 4 * k) (omega arith))
+
+  pub moved-past : drop tableBytes (moved run k i) ≡ drop tableBytes run
+  unfolding moved
+  moved-past =
+      let b = bytes-long (serialAt run i) in
+      put-past (secondOf run k i) (slotNumber run k ∷ []) (slotNumbersPlace + i) tableBytes (omega arith)
+      ∙ (put-past (firstOf run k i) (slotNumber run i ∷ []) (slotNumbersPlace + k) tableBytes (omega arith) ∙ put-past run (bytesOf (serialAt run i)) (serialsPlace + 4 * k) tableBytes (omega arith))
 
   pub moved-slot : (j : ℕ) → slotOf (moved run k i) j ≡ slotOf run j
   unfolding moved

@@ -6,19 +6,19 @@ use Prim.Native.Nat.{ℕ, zero, suc, _+_, _-_, _*_, _^_, _<_, _≤_}
 use native.Mathlib.Numerals.{add-one}
 use native.Mathlib.Omega.{arith}
 use lib.Dec.{eqb}
-use lib.ListN.{length, getD, set, length-append, length-replicate}
+use lib.ListN.{length, getD, drop, set, length-append, length-replicate}
 use borrow.Author.Tests.{eqb-true, eqb-false, eq-eqb, ne-eqb}
 use Rattle.ascii.specs.Bytes.{pick}
 use Rattle.limits.specs.Limits.{documentLimit}
 use Rattle.lent_bytes.specs.Numbers.{numbersIn, withNumber, bytesOf}
-use Rattle.lent_bytes.proofs.Laws.{put-long}
+use Rattle.lent_bytes.proofs.Laws.{bytes-long, put-long, put-past}
 use Rattle.document_model.specs.Model.{Document, valuesFrom, elem, isAtOrBeneath, remaining, removedCount, serialsBeneath, stored}
 use Rattle.document_model.proofs.Laws.{remaining-none, remaining-goes, remaining-stays, removed-none, removed-goes, removed-stays, serials-none, serials-more, serials-same, stored-none, stored-snoc, values-none, values-same, values-snoc}
 use Rattle.document_records.specs.Slots.{aboveBytes, GoodSlot}
 use Rattle.document_table.specs.Layout.{countPlace, tableBytes, countIn, lastIn, serialAt, slotNumber, slotOf, docAt, docsIn, moved, swept, removedRun}
 use Rattle.document_table.specs.Tables.{Sound, IsSlot, IsRemoved, noSerials, AreSerials}
 use Rattle.document_table.proofs.Laws.{doc-same, doc-serial, beneath-is}
-use Rattle.document_table.proofs.Puts.{behind-mark, count-here, count-last, count-serial, count-number, count-slot, moved-long, moved-count, moved-last, moved-serial, moved-serial-other, moved-mark, moved-slot, moved-from, moved-to, moved-number-other}
+use Rattle.document_table.proofs.Puts.{behind-mark, count-here, count-last, count-serial, count-number, count-slot, moved-long, moved-count, moved-last, moved-serial, moved-serial-other, moved-mark, moved-past, moved-slot, moved-from, moved-to, moved-number-other}
 
 -- ---- two places change
 
@@ -229,6 +229,32 @@ is-removed before run after s i k m n counted low high same w is =
       few = let b = w .sound .count in let e = w .count in omega arith;
       count = let g = w .gone in rw (← all) (let z : n - k ≡ removedCount s (valuesFrom (docAt before) 0 i) = omega arith in z);
     })
+
+-- what neither the count nor an entry that moves changes, the sweep doesn't
+module _ (read : List ℕ → List ℕ) (counted : (run : List ℕ) (x : ℕ) → read (withNumber run countPlace x) ≡ read run)
+    (shifted : (run : List ℕ) (k i : ℕ) → tableBytes ≤ length run → k ≤ i → i < documentLimit → read (moved run k i) ≡ read run) (goes : ℕ → Bool) where
+  swept-keeps : (n : ℕ) (run : List ℕ) (k i : ℕ) → tableBytes ≤ length run → k ≤ i → i + n ≤ documentLimit → read (swept goes n run k i) ≡ read run
+  swept-keeps zero run k i long le few = ap read (swept-end goes run k i) ∙ counted run k
+  swept-keeps (suc n) run k i long le few = go (goes i) refl (λ l j h q. swept-keeps n l j (i + 1) h q (omega arith))
+    where
+      go : (b : Bool) → goes i ≡ b → ((l : List ℕ) (j : ℕ) → tableBytes ≤ length l → j ≤ i + 1 → read (swept goes n l j (i + 1)) ≡ read l) → read (swept goes (suc n) run k i) ≡ read run
+      go true e f = ap read (swept-goes goes n run k i e) ∙ f run k long (omega arith)
+      go false e f =
+          let lt : i < documentLimit = omega arith in
+          let m = moved-long run k i long le lt in
+          ap read (swept-stays goes n run k i e) ∙ (f (moved run k i) (k + 1) (omega arith) (omega arith) ∙ shifted run k i long le lt)
+
+-- an unload changes no slot, and writes nothing past the table
+module _ (s : ℕ) (run : List ℕ) (sound : Sound run) where
+  pub removed-slots : (j : ℕ) → slotOf (removedRun s run) j ≡ slotOf run j
+  removed-slots j =
+      let c = sound .count in
+      swept-keeps (λ l. slotOf l j) (λ l x. count-slot l x j) (λ l k i long le lt. moved-slot l k i long le lt j) (goesIn run s) (countIn run) run 0 0 (sound .long) (omega arith) (omega arith)
+
+  pub removed-past : drop tableBytes (removedRun s run) ≡ drop tableBytes run
+  removed-past =
+      let c = sound .count in
+      swept-keeps (drop tableBytes) (λ l x. let b = bytes-long x in put-past l (bytesOf x) countPlace tableBytes (omega arith)) (λ l k i long le lt. moved-past l k i long le lt) (goesIn run s) (countIn run) run 0 0 (sound .long) (omega arith) (omega arith)
 
 -- ---- the serials beneath a document
 

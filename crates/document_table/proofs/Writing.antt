@@ -16,24 +16,24 @@ use Rattle.lent_bytes.specs.Numbers.{bytesOf}
 use Rattle.lent_bytes.proofs.Laws.{put-nothing, with-append}
 use Rattle.document_model.specs.Model.{valuesFrom}
 use Rattle.document_model.proofs.Laws.{values-length, values-none, values-snoc}
-use Rattle.document_table.specs.Layout.{markPlace, mark, countPlace, lastPlace, serialsPlace, directoryPlace, tableBytes, countIn, lastIn, serialAt, slotNumber, newRun, pushed, hasRoom, moved}
+use Rattle.document_table.specs.Layout.{markPlace, mark, countPlace, lastPlace, serialsPlace, slotNumbersPlace, tableBytes, countIn, lastIn, serialAt, slotNumber, newRun, pushed, canPush, moved}
 
 -- the numbers of the slots, one by one
-pub free-none : (run : List ℕ) → run ≡ withText run directoryPlace (valuesFrom (λ n. n) 0 0)
-free-none run = rw (values-none (λ (n : ℕ). n) 0) (sym (put-nothing run directoryPlace))
+pub free-none : (run : List ℕ) → run ≡ withText run slotNumbersPlace (valuesFrom (λ n. n) 0 0)
+free-none run = rw (values-none (λ (n : ℕ). n) 0) (sym (put-nothing run slotNumbersPlace))
 
-pub free-more : (before run after : List ℕ) (i : ℕ) → run ≡ withText before directoryPlace (valuesFrom (λ n. n) 0 i) → after ≡ withText run (directoryPlace + i) (i ∷ []) → after ≡ withText before directoryPlace (valuesFrom (λ n. n) 0 (i + 1))
+pub free-more : (before run after : List ℕ) (i : ℕ) → run ≡ withText before slotNumbersPlace (valuesFrom (λ n. n) 0 i) → after ≡ withText run (slotNumbersPlace + i) (i ∷ []) → after ≡ withText before slotNumbersPlace (valuesFrom (λ n. n) 0 (i + 1))
 free-more before run after i e f =
     let m : length (valuesFrom (λ (n : ℕ). n) 0 i) ≡ i = values-length (λ n. n) 0 i in
     let z : 0 + i ≡ i = omega arith in
     f
-    ∙ (ap (λ (l : List ℕ). withText l (directoryPlace + i) (i ∷ [])) e
-    ∙ rw (add-one i, values-snoc (λ (n : ℕ). n) 0 i, z) (ap (λ (k : ℕ). withText (withText before directoryPlace (valuesFrom (λ n. n) 0 i)) (directoryPlace + k) (i ∷ [])) (sym m) ∙ sym (with-append (valuesFrom (λ n. n) 0 i) (i ∷ []) before directoryPlace)))
+    ∙ (ap (λ (l : List ℕ). withText l (slotNumbersPlace + i) (i ∷ [])) e
+    ∙ rw (add-one i, values-snoc (λ (n : ℕ). n) 0 i, z) (ap (λ (k : ℕ). withText (withText before slotNumbersPlace (valuesFrom (λ n. n) 0 i)) (slotNumbersPlace + k) (i ∷ [])) (sym m) ∙ sym (with-append (valuesFrom (λ n. n) 0 i) (i ∷ []) before slotNumbersPlace)))
 
-pub free-all : (before run : List ℕ) (i : ℕ) → i ≤ documentLimit → documentLimit ≤ i → run ≡ withText before directoryPlace (valuesFrom (λ n. n) 0 i) → run ≡ withText before directoryPlace (valuesFrom (λ n. n) 0 documentLimit)
+pub free-all : (before run : List ℕ) (i : ℕ) → i ≤ documentLimit → documentLimit ≤ i → run ≡ withText before slotNumbersPlace (valuesFrom (λ n. n) 0 i) → run ≡ withText before slotNumbersPlace (valuesFrom (λ n. n) 0 documentLimit)
 free-all before run i low high e = let q : i ≡ documentLimit = omega arith in rw q at e
 
-pub cleared : (run zero one two after t : List ℕ) → after ≡ withText two directoryPlace (valuesFrom (λ n. n) 0 documentLimit) → two ≡ withText one lastPlace (bytesOf 0) → one ≡ withText zero countPlace (bytesOf 0) → zero ≡ withText run markPlace t → t ≡ mark → after ≡ newRun run
+pub cleared : (run zero one two after t : List ℕ) → after ≡ withText two slotNumbersPlace (valuesFrom (λ n. n) 0 documentLimit) → two ≡ withText one lastPlace (bytesOf 0) → one ≡ withText zero countPlace (bytesOf 0) → zero ≡ withText run markPlace t → t ≡ mark → after ≡ newRun run
 cleared run zero one two after t e f g h k = rw (e, f, g, h, k) refl
 
 pub pushes-is : (run one two after : List ℕ) (n w l : ℕ) → after ≡ withText two countPlace (bytesOf (n + 1)) → two ≡ withText one lastPlace (bytesOf (l + 1)) → one ≡ withText run (serialsPlace + 4 * w) (bytesOf (l + 1))
@@ -48,15 +48,15 @@ module _ (run : List ℕ) (n m l : ℕ) (counted : m ≡ countIn run) (same : n 
   pub room-last : ltb n documentLimit && ltb l lastSerial ≡ true → lastIn run < lastSerial
   room-last e = let h = ltb-true l lastSerial (and-right (ltb n documentLimit) (ltb l lastSerial) e) in omega arith
 
-  pub pushed-on : (after : List ℕ) → ltb n documentLimit && ltb l lastSerial ≡ true → after ≡ pushed run → after ≡ pick (hasRoom run) (pushed run) run
+  pub pushed-on : (after : List ℕ) → ltb n documentLimit && ltb l lastSerial ≡ true → after ≡ pushed run → after ≡ pick (canPush run) (pushed run) run
   unfolding pick
-  pushed-on after e f = let t : hasRoom run ≡ true = rw (← counted, ← same, ← is) e in rw t f
+  pushed-on after e f = let t : canPush run ≡ true = rw (← counted, ← same, ← is) e in rw t f
 
-  pub pushed-off : ltb n documentLimit && ltb l lastSerial ≡ false → run ≡ pick (hasRoom run) (pushed run) run
+  pub pushed-off : ltb n documentLimit && ltb l lastSerial ≡ false → run ≡ pick (canPush run) (pushed run) run
   unfolding pick
-  pushed-off e = let t : hasRoom run ≡ false = rw (← counted, ← same, ← is) e in rw t refl
+  pushed-off e = let t : canPush run ≡ false = rw (← counted, ← same, ← is) e in rw t refl
 
-pub moves-is : (run one two after : List ℕ) (k i s : ℕ) → after ≡ withText two (directoryPlace + i) (slotNumber run k ∷ []) → two ≡ withText one (directoryPlace + k) (slotNumber run i ∷ []) → one ≡ withText run (serialsPlace + 4 * k) (bytesOf s)
+pub moves-is : (run one two after : List ℕ) (k i s : ℕ) → after ≡ withText two (slotNumbersPlace + i) (slotNumber run k ∷ []) → two ≡ withText one (slotNumbersPlace + k) (slotNumber run i ∷ []) → one ≡ withText run (serialsPlace + 4 * k) (bytesOf s)
     → s ≡ serialAt run i → after ≡ moved run k i
 unfolding moved
 moves-is run one two after k i s e f g h = rw (e, f, g, h) refl

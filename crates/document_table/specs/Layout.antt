@@ -1,5 +1,5 @@
--- The table in one run of bytes: a mark, how many documents there are, the last serial that was given, a directory, and a slot for each document. The directory has the serials, ascending, and beside each the number of its slot;
--- past the documents it has the numbers of the free slots. A document's bytes never move: a load takes the first free slot, an unload changes the directory alone. The places are stated here alone.
+-- The table in one run of bytes: a mark, how many documents there are, the last serial that was given, a directory, and a slot for each document. The directory has the serials, ascending, and behind them, in the same order, the numbers of their slots;
+-- past the documents it has the numbers of the free slots. A document's bytes never move: a load takes the first free slot, an unload changes the directory and the count alone. The places are stated here alone.
 use Prim.Native.Nat.{ℕ, zero, suc, _+_, _*_}
 use mathlib.Core.Bool.{Bool, _&&_}
 use mathlib.Core.List.{List, [], _∷_}
@@ -30,11 +30,11 @@ lastPlace = countPlace + 4
 abbrev pub serialsPlace : ℕ
 serialsPlace = lastPlace + 4
 
-abbrev pub directoryPlace : ℕ
-directoryPlace = serialsPlace + 4 * documentLimit
+abbrev pub slotNumbersPlace : ℕ
+slotNumbersPlace = serialsPlace + 4 * documentLimit
 
 abbrev pub slotsPlace : ℕ
-slotsPlace = directoryPlace + documentLimit
+slotsPlace = slotNumbersPlace + documentLimit
 
 abbrev pub tableBytes : ℕ
 tableBytes = slotsPlace + slotBytes * documentLimit
@@ -59,7 +59,7 @@ abbrev pub serialAt : List ℕ → ℕ → ℕ
 serialAt run i = numberAt run (serialsPlace + 4 * i)
 
 abbrev pub slotNumber : List ℕ → ℕ → ℕ
-slotNumber run i = getD run (directoryPlace + i) 0
+slotNumber run i = getD run (slotNumbersPlace + i) 0
 
 abbrev pub slotPlace : ℕ → ℕ
 slotPlace k = slotsPlace + slotBytes * k
@@ -82,7 +82,7 @@ view run = record { docs = docsIn run; next = suc (lastIn run) }
 
 -- a new table: marked, no documents, no serial given, and every slot is free
 abbrev pub newRun : List ℕ → List ℕ
-newRun run = withText (withNumber (withNumber (withText run markPlace mark) countPlace 0) lastPlace 0) directoryPlace (valuesFrom (λ n. n) 0 documentLimit)
+newRun run = withText (withNumber (withNumber (withText run markPlace mark) countPlace 0) lastPlace 0) slotNumbersPlace (valuesFrom (λ n. n) 0 documentLimit)
 
 -- bytes in a slot
 abbrev pub withSlot : List ℕ → ℕ → List ℕ → List ℕ
@@ -94,19 +94,19 @@ pushed run =
     withNumber (withNumber (withNumber run (serialsPlace + 4 * countIn run) (lastIn run + 1)) lastPlace (lastIn run + 1)) countPlace (countIn run + 1)
 
 -- there is room for one more, and a serial
-abbrev pub hasRoom : List ℕ → Bool
-hasRoom run = ltb (countIn run) documentLimit && ltb (lastIn run) lastSerial
+abbrev pub canPush : List ℕ → Bool
+canPush run = ltb (countIn run) documentLimit && ltb (lastIn run) lastSerial
 
 -- a load: a slot's bytes, and its entry
 abbrev pub loadedRun : List ℕ → List ℕ → List ℕ
 loadedRun run slot = pushed (withSlot run (slotNumber run (countIn run)) slot)
 
--- the entry at place i changes places with that at place k; of the serials that of place i stands at both
+-- place k gets the serial of place i, and the two exchange their slot numbers
 unfoldable pub moved : List ℕ → ℕ → ℕ → List ℕ
 moved run k i =
-    withText (withText (withNumber run (serialsPlace + 4 * k) (serialAt run i)) (directoryPlace + k) (slotNumber run i ∷ [])) (directoryPlace + i) (slotNumber run k ∷ [])
+    withText (withText (withNumber run (serialsPlace + 4 * k) (serialAt run i)) (slotNumbersPlace + k) (slotNumber run i ∷ [])) (slotNumbersPlace + i) (slotNumber run k ∷ [])
 
--- so many entries from place i on are looked at, and those that stay are moved up to place k on; then there are as many documents
+-- so many entries from place i on are looked at, and those that stay are moved up to place k on, one after the other; at the end the count is k
 unfoldable pub swept : (ℕ → Bool) → ℕ → List ℕ → ℕ → ℕ → List ℕ
 swept goes zero run k i = withNumber run countPlace k
 swept goes (suc n) run k i = pick (goes i) (swept goes n run k (i + 1)) (swept goes n (moved run k i) (k + 1) (i + 1))

@@ -5,8 +5,8 @@ use mathlib.Core.Bool.{true}
 use lib.Dec.{leb}
 use Rattle.document_table.specs.Layout.{tableBytes}
 
-never-short : leb tableBytes (4 * 1024 * 1024) ≡ true
+pub never-short : leb tableBytes (4 * 1024 * 1024) ≡ true
 never-short = refl
 
-within-one : leb tableBytes (1024 * 1024) ≡ true
+pub within-one : leb tableBytes (1024 * 1024) ≡ true
 within-one = refl

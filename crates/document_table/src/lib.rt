@@ -1,4 +1,4 @@
-// The table of loaded documents in one lent run of bytes: a directory, and a slot of fixed size for each document. Find a document, take its slot, give a slot away, remove a document with all beneath it.
+// The table of loaded documents in one lent run of bytes: a directory, and a slot of fixed size for each document. Finding a document and its slot, allocating the first free slot, removing a document with all beneath it.
 ghost use mathlib.Core.Path.{_≡_};
 ghost use Prim.Native.Nat.{_+_, _^_, _≤_, _<_};
 ghost use Rattle.ascii.specs.Bytes.{pick};
@@ -7,7 +7,7 @@ ghost use Rattle.writing.specs.Writing.{withText};
 ghost use Rattle.limits.specs.Limits.{documentLimit, lastSerial};
 ghost use Rattle.document_model.specs.Model.{valuesFrom, isAtOrBeneath};
 ghost use Rattle.document_records.specs.Slots.{slotBytes};
-ghost use Rattle.document_table.specs.Layout.{directoryPlace, tableBytes, countIn, lastIn, serialAt, slotNumber, slotPlace, docAt, newRun, pushed, hasRoom, moved};
+ghost use Rattle.document_table.specs.Layout.{slotNumbersPlace, tableBytes, countIn, lastIn, serialAt, slotNumber, slotPlace, docAt, newRun, pushed, canPush, moved};
 ghost use Rattle.document_table.specs.Tables.{Sound, Ascends, IsFound, IsSlot, halved, Near, AreSerials, IsRemoved};
 use limits::DOCUMENTS;
 
@@ -23,9 +23,9 @@ const LAST: usize = COUNT + lent_bytes::NUMBER;
 
 const SERIALS: usize = LAST + lent_bytes::NUMBER;
 
-const DIRECTORY: usize = SERIALS + lent_bytes::NUMBER * DOCUMENTS;
+const SLOT_NUMBERS: usize = SERIALS + lent_bytes::NUMBER * DOCUMENTS;
 
-const SLOTS: usize = DIRECTORY + DOCUMENTS;
+const SLOTS: usize = SLOT_NUMBERS + DOCUMENTS;
 
 // Bytes of a table: the length that a lent run must have.
 pub const TABLE_BYTES: usize = SLOTS + document_records::SLOT_BYTES * DOCUMENTS;
@@ -57,7 +57,7 @@ pub fn last(run: &[u8]) -> u32
     lent_bytes::number(run, LAST)
 }
 
-// A halving, without a branch.
+// A step of the binary search.
 fn halved(run: &[u8], n: usize, serial: u32, at: usize, half: usize) -> usize
     requires { ⌜ (tableBytes ≤ length (now run)) × (at + half < documentLimit) ⌝ }
     ensures { λ r. ⌜ (r ≡ halved (now (run .entry)) n serial at half) × (r ≤ at + half) ⌝ }
@@ -67,7 +67,7 @@ fn halved(run: &[u8], n: usize, serial: u32, at: usize, half: usize) -> usize
     if (mid < n) & (s <= serial) { mid } else { at }
 }
 
-// The one place where a serial can stand: all places are halved until one is left. The compiler unrolls the loop.
+// The one place where a serial can stand, by binary search.
 fn nearest(run: &[u8], n: usize, serial: u32) -> usize
     requires { ⌜ Sound (now run) × Ascends (now run) × (n ≡ countIn (now run)) ⌝ }
     ensures { λ r. ⌜ Near (now (run .entry)) n serial r 1 × (r < documentLimit) ⌝ }
@@ -108,7 +108,7 @@ pub fn slot_place(run: &[u8], i: usize) -> usize
     requires { ⌜ Sound (now run) × (i < documentLimit) ⌝ }
     ensures { λ r. ⌜ (r ≡ slotPlace (slotNumber (now (run .entry)) i)) × (r + slotBytes ≤ length (now (run .entry))) ⌝ }
 {
-    SLOTS + document_records::SLOT_BYTES * wide(run[DIRECTORY + i])
+    SLOTS + document_records::SLOT_BYTES * wide(run[SLOT_NUMBERS + i])
 }
 
 // The slot of the document at a place.
@@ -120,7 +120,7 @@ pub fn slot(run: &[u8], i: usize) -> &[u8]
 }
 
 // The serial of the document at a place.
-pub fn serial_at(run: &[u8], i: usize) -> u32
+fn serial_at(run: &[u8], i: usize) -> u32
     requires { ⌜ Sound (now run) × (i < documentLimit) ⌝ }
     ensures { λ r. ⌜ r ≡ serialAt (now (run .entry)) i ⌝ }
 {
@@ -130,11 +130,11 @@ pub fn serial_at(run: &[u8], i: usize) -> u32
 // Every slot is free, in order.
 fn free_slots(run: &mut [u8])
     requires { ⌜ tableBytes ≤ length (now run) ⌝ }
-    ensures { λ _. ⌜ now (run .exit) ≡ withText (now (run .entry)) directoryPlace (valuesFrom (λ n. n) 0 documentLimit) ⌝ }
+    ensures { λ _. ⌜ now (run .exit) ≡ withText (now (run .entry)) slotNumbersPlace (valuesFrom (λ n. n) 0 documentLimit) ⌝ }
 {
     let mut i: usize = 0;
     while i < DOCUMENTS {
-        lent_bytes::put_one(run, DIRECTORY + i, i as u8);
+        lent_bytes::put_one(run, SLOT_NUMBERS + i, i as u8);
         i += 1;
     }
 }
@@ -169,7 +169,7 @@ fn add_entry(run: &mut [u8])
 // The same, where there is room for one more and a serial; else nothing.
 pub fn push(run: &mut [u8])
     requires { ⌜ tableBytes ≤ length (now run) ⌝ }
-    ensures { λ _. ⌜ now (run .exit) ≡ pick (hasRoom (now (run .entry))) (pushed (now (run .entry))) (now (run .entry)) ⌝ }
+    ensures { λ _. ⌜ now (run .exit) ≡ pick (canPush (now (run .entry))) (pushed (now (run .entry))) (now (run .entry)) ⌝ }
 {
     let n = lent_bytes::wide(lent_bytes::number(run, COUNT));
     let last = lent_bytes::number(run, LAST);
@@ -184,11 +184,11 @@ fn move_entry(run: &mut [u8], to: usize, from: usize)
     ensures { λ _. ⌜ (now (run .exit) ≡ moved (now (run .entry)) to from) × (serialAt (now (run .entry)) from < 2 ^ 32) ⌝ }
 {
     let s = lent_bytes::number(run, SERIALS + lent_bytes::NUMBER * from);
-    let a = run[DIRECTORY + from];
-    let b = run[DIRECTORY + to];
+    let a = run[SLOT_NUMBERS + from];
+    let b = run[SLOT_NUMBERS + to];
     lent_bytes::put_number(run, SERIALS + lent_bytes::NUMBER * to, s);
-    lent_bytes::put_one(run, DIRECTORY + to, a);
-    lent_bytes::put_one(run, DIRECTORY + from, b);
+    lent_bytes::put_one(run, SLOT_NUMBERS + to, a);
+    lent_bytes::put_one(run, SLOT_NUMBERS + from, b);
 }
 
 fn small(x: usize) -> u32
@@ -206,7 +206,7 @@ fn goes(run: &[u8], i: usize, serial: u32) -> bool
     (serial_at(run, i) == serial) | document_records::is_beneath(slot(run, i), serial)
 }
 
-// A document goes, and all beneath it; how many they are. The entries of the others move up, and no slot changes.
+// A document is removed, and all beneath it; how many they are. The entries of the others move up, and no slot changes.
 pub fn remove(run: &mut [u8], serial: u32) -> usize
     requires { ⌜ Sound (now run) ⌝ }
     ensures { λ r. ⌜ IsRemoved (now (run .entry)) serial (now (run .exit)) r ⌝ }

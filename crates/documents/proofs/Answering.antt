@@ -1,6 +1,6 @@
 -- What each return of the calls answers, in the terms of the code. Assumes nothing.
 use mathlib.Core.Path.{_≡_, refl, ap, sym, _∙_}
-use Prim.Native.Nat.{ℕ, suc, _-_, _≤_, _<_}
+use Prim.Native.Nat.{ℕ, suc, _-_, _*_, _≤_, _<_}
 use native.Mathlib.Omega.{arith}
 use mathlib.Core.List.{List, [], _∷_, _++_}
 use mathlib.Core.Bool.{Bool, true, false, not}
@@ -36,7 +36,7 @@ use Rattle.documents.specs.declared.QuestionAnswer.the-variants as quest
 use Rattle.documents.specs.declared.UnloadAnswer.the-variants as unloading
 use Rattle.documents.specs.declared.ListingAnswer.the-variants as listing
 use Rattle.documents.specs.Bytes.{bytesIn, bytesLeft}
-use Rattle.documents.specs.Answers.{Valid, questionIn, IsNew, Unloads, Lists}
+use Rattle.documents.specs.Answers.{Valid, questionIn, newIn, IsNew, Unloads, Lists}
 use Rattle.documents.specs.Steps.{isBad}
 
 -- ---- what holds of a table that calls left
@@ -75,6 +75,11 @@ new-ready run after h e =
       valid = λ q. rw e (record { sound = new-sound run h; calls = []; left = new-view run h ∙ sym table-none });
       table = λ q. rw e (new-view run h);
     }
+
+-- 02, R-4: "(4 MiB never is)"
+pub never-short : (run : List ℕ) → 4 * 1024 * 1024 ≤ length run → newIn run ≡ made.Ready
+unfolding pick
+never-short run h = rw (le-ltb (length run) tableBytes (omega arith)) refl
 
 -- ---- a question
 

@@ -8,22 +8,23 @@ use borrow.Author.Tests.{lt-ltb}
 use Rattle.ascii.specs.Bytes.{pick}
 use lib.ListN.{length, take, drop, length-take, length-drop}
 use Rattle.writing.specs.Writing.{withText}
-use Rattle.limits.specs.Limits.{documentLimit, lastSerial}
+use Rattle.limits.specs.Limits.{textBytes, documentLimit, lastSerial}
 use Rattle.lent_bytes.proofs.Laws.{mid-put, put-long}
 use Rattle.document_model.specs.Model.{Text, Identity, Document, declaredBy}
 use Rattle.document_records.specs.Slots.{slotBytes, documentIn}
-use Rattle.document_table.specs.Layout.{tableBytes, countIn, lastIn, slotNumber, slotPlace, slotOf, docsIn, withSlot, pushed, hasRoom, loadedRun}
+use Rattle.document_table.specs.Layout.{tableBytes, countIn, lastIn, slotNumber, slotPlace, slotOf, docsIn, withSlot, pushed, canPush, loadedRun}
 use Rattle.document_table.proofs.Puts.{with-count, with-last}
 use Rattle.document_table.proofs.Laws.{loaded-sound, loaded-docs, loaded-last}
 use Rattle.document_loads.specs.declared.NewDocument.{NewDocument}
 use Rattle.document_loads.specs.Slots.{written, Written, Writes}
+use Rattle.document_loads.proofs.Putting.{header-is}
 use Rattle.documents.specs.Steps.{HasRoom, Placed, Places}
 
-given : (run : List ℕ) → hasRoom run ≡ true → pick (hasRoom run) (pushed run) run ≡ pushed run
+given : (run : List ℕ) → canPush run ≡ true → pick (canPush run) (pushed run) run ≡ pushed run
 unfolding pick
 given run e = rw e refl
 
-module _ (run slot : List ℕ) (p k n : ℕ) (d : NewDocument) (h : List ℕ) (r : Bool) (has : HasRoom run) (counted : n ≡ countIn run) (at : (p ≡ slotPlace (slotNumber run n)) × (p + slotBytes ≤ length run)) (size : k ≡ slotBytes) (w : Writes (take k (drop p run)) d h slot r) where
+module _ (run slot : List ℕ) (p k n : ℕ) (d : NewDocument) (h : List ℕ) (r : Bool) (has : HasRoom run) (counted : n ≡ countIn run) (at : (p ≡ slotPlace (slotNumber run n)) × (p + slotBytes ≤ length run)) (size : k ≡ slotBytes) (w : Writes (take k (drop p run)) d h slot r) (le : length h ≤ textBytes) where
   place-is : p ≡ slotPlace (slotNumber run (countIn run))
   place-is = at .0 ∙ ap (λ (j : ℕ). slotPlace (slotNumber run j)) counted
 
@@ -41,20 +42,20 @@ module _ (run slot : List ℕ) (p k n : ℕ) (d : NewDocument) (h : List ℕ) (r
       let l = has .sound .long in
       rw between (let n = put-long run (slotPlace (slotNumber run (countIn run))) slot in omega arith)
 
-  room-there : hasRoom (withSlot run (slotNumber run (countIn run)) slot) ≡ true
+  room-there : canPush (withSlot run (slotNumber run (countIn run)) slot) ≡ true
   room-there = rw (with-count run slot (slotNumber run (countIn run)) full, with-last run slot (slotNumber run (countIn run)) full, lt-ltb (countIn run) documentLimit (has .room), lt-ltb (lastIn run) lastSerial (has .left)) refl
 
-  pub is-placed : (after : List ℕ) (s : ℕ) → after ≡ pick (hasRoom (take p run ++ (slot ++ drop k (drop p run)))) (pushed (take p run ++ (slot ++ drop k (drop p run)))) (take p run ++ (slot ++ drop k (drop p run))) → Places run d h after (record { serial = s; malformed = r })
+  pub is-placed : (after : List ℕ) (s : ℕ) → after ≡ pick (canPush (take p run ++ (slot ++ drop k (drop p run)))) (pushed (take p run ++ (slot ++ drop k (drop p run)))) (take p run ++ (slot ++ drop k (drop p run))) → Places run d h after (record { serial = s; malformed = r })
   is-placed after s e =
-      let whole : after ≡ loadedRun run slot = e ∙ (ap (λ (l : List ℕ). pick (hasRoom l) (pushed l) l) between ∙ given (withSlot run (slotNumber run (countIn run)) slot) room-there) in
+      let whole : after ≡ loadedRun run slot = e ∙ (ap (λ (l : List ℕ). pick (canPush l) (pushed l) l) between ∙ given (withSlot run (slotNumber run (countIn run)) slot) room-there) in
       record {
         says = λ i m new serial few.
-            let q = w .says i m new few in
+            let q = w .says i m new few le in
             record {
               is = whole ∙ ap (loadedRun run) (q .is ∙ ap (λ (l : List ℕ). written l (record { identity = i; inherited = m; declared = declaredBy h }) h) part-is);
               sound = rw whole (loaded-sound run slot (has .sound) full (has .room) (has .left) (q .good));
               docs = rw whole (loaded-docs run slot (has .sound) full (has .room) (has .left) ∙ ap (λ (x : Document). docsIn run ++ (x ∷ [])) (ap (λ (j : ℕ). documentIn j slot) (sym serial) ∙ q .says));
               last = rw whole (loaded-last run slot (has .sound) full (has .room) (has .left));
             };
-        malformed = w .malformed;
+        malformed = w .malformed ∙ header-is h le .1;
       }

@@ -26,7 +26,7 @@ use Rattle.documents.specs.declared.UnloadAnswer.the-variants as unload
 use Rattle.documents.specs.declared.ListingAnswer.{ListingAnswer}
 use Rattle.documents.specs.declared.ListingAnswer.the-variants as listing
 
--- "The shell hands each call the table as the last call left it, unaltered, in lent memory too": the bytes of a table that calls on a new one left
+-- "The shell hands each call the table as the last call left it, unaltered, in lent memory too": sound bytes that say a table which calls on a new one left. What stands in free slots and past the table is left open: no call depends on it
 pub record Valid (run : List ℕ) : Type 0 where
   pub sound : Sound run
   pub calls : List Call

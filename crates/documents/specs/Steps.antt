@@ -88,7 +88,7 @@ pub record Placed (before : List ℕ) (i : Identity) (inherited : ℕ) (h : Text
   pub docs : docsIn after ≡ docsIn before ++ (record { identity = i; inherited = inherited; declared = declaredBy h } ∷ [])
   pub last : lastIn after ≡ lastIn before + 1
 
--- for every identity with that serial, and room for one more above, of which the code's values are
+-- for every identity that the code's values describe, with the next serial and room for one more above
 pub record Places (before : List ℕ) (d : NewDocument) (h : Text) (after : List ℕ) (r : LoadedDocument) : Type 0 where
   pub says : (i : Identity) (inherited : ℕ) → IsNewDocument i inherited d → i .serial ≡ suc (lastIn before) → length (i .above) < documentLimit → Placed before i inherited h after
   pub malformed : r .malformed ≡ isMalformed h

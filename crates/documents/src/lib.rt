@@ -53,7 +53,7 @@ pub enum LoadAnswer {
     Refused(Refusal),
 }
 
-// How many documents went, or a refusal.
+// How many documents were removed, or a refusal.
 pub enum UnloadAnswer {
     Removed(usize),
     Refused(Refusal),
@@ -217,7 +217,7 @@ pub fn enabled_features(run: &[u8], serial: u32) -> FeaturesAnswer
     }
 }
 
-// A document goes, and all beneath it.
+// A document is removed, and all beneath it.
 pub fn unload(run: &mut [u8], serial: u32) -> UnloadAnswer
     requires { ⌜ Valid (now run) ⌝ }
     ensures { λ r. ⌜ Unloads (unload serial) (now (run .entry)) (now (run .exit)) r × (removedBy r ≤ documentLimit) ⌝ }

@@ -8,9 +8,7 @@ use lib.ListN.{length, getD}
 use Rattle.features.specs.Features.{Row, features, featureCount, rowName, rowDefault, names, nameOf, defaultOf}
 use Rattle.features.specs.Features.Default.{star, self}
 use Rattle.features.specs.Features.Row.{feature}
-use Rattle.features.specs.Answers.{entryAs, listIn, padded, IsEntry, IsName}
-use Rattle.features.specs.declared.DefaultAllowlist.{DefaultAllowlist}
-use Rattle.features.specs.declared.DefaultAllowlist.the-variants.{All, SelfOnly}
+use Rattle.features.specs.Answers.{entryAs, padded, IsEntry, IsName}
 use Rattle.features.specs.declared.Feature.{Feature}
 use Rattle.features.specs.declared.Name.{Name}
 use Rattle.features.proofs.Rules.{noRow, rows, map-at, map-some, padded-take, padded-length}
@@ -28,13 +26,6 @@ entry-at t d n e h =
     let g : n < length features = omega (arith, rows) in
     rw (e, map-at entryAs noRow d features n g)
     (row-entry n (getD features n noRow) (map-at rowName noRow [] features n g) (map-some rowDefault noRow features n g))
-
--- an entry's default list, by its case
-pub default-star : (d : DefaultAllowlist) (n : ℕ) → d ≡ All → some (listIn d) ≡ defaultOf n → some star ≡ defaultOf n
-default-star d n t e = rw t at e
-
-pub default-self : (d : DefaultAllowlist) (n : ℕ) → d ≡ SelfOnly → some (listIn d) ≡ defaultOf n → some self ≡ defaultOf n
-default-self d n t e = rw t at e
 
 -- the bytes and the length of a name pin all that is asked of it
 pub name-is : (n : ℕ) (r : Name) → r .bytes ≡ padded (nameOf n) → r .len ≡ length (nameOf n) → IsName n r

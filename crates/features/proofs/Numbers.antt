@@ -1,16 +1,19 @@
--- The names in the code's numbers: computed over the seventeen names. Assumes nothing.
+-- The names and defaults in the code's numbers: computed over the seventeen features. Assumes nothing.
 use mathlib.Core.Path.{_≡_, refl}
 use mathlib.Core.Bool.{Bool, true, false}
-use mathlib.Core.List.{List, []}
+use mathlib.Core.List.{List, [], _∷_, map}
+use mathlib.Core.Option.{some}
 use Prim.Native.Nat.{ℕ, zero, suc, _+_, _*_, _^_, _/_, _%_, _<_, _≤_}
+use native.Mathlib.Nat.{zero-add, add-zero, add-suc, suc-add, le-of-suc-le-suc, not-suc-le-zero}
 use native.Mathlib.Omega.{arith}
 use lib.Dec.{eqb, leb}
-use lib.ListN.{length}
-use borrow.Author.Tests.{eqb-true, eqb-false, le-leb, lt-leb}
+use lib.ListN.{length, getElem?}
+use borrow.Author.Tests.{eqb-true, eqb-false, eq-eqb, ne-eqb, le-leb, lt-leb}
 use Rattle.ascii.specs.Bytes.{pick}
 use Rattle.ascii.specs.Texts.{every, sameBytes}
 use Rattle.ascii.proofs.Texts.{every-at, bytes-same}
-use Rattle.features.specs.Features.{featureCount, names, nameOf}
+use Rattle.features.specs.Features.{Default, features, featureCount, rowDefault, names, nameOf, defaultOf}
+use Rattle.features.specs.Features.Default.{star, self}
 use Rattle.features.specs.Discarding.{thirdOf}
 use Rattle.features.specs.Packing.{frontOf, backOf}
 use Rattle.features.specs.Answers.{IsPacked, OnlyNumber}
@@ -79,3 +82,32 @@ none-below (suc k) n h = let a : k ≤ n = none-below k n (h .0) in go (eqb n k)
 
 pub packed-none : (n : ℕ) (r : Packed) → featureCount ≤ n → r ≡ record { len = 0; third = 0; front = 0; back = 0 } → IsPacked n r
 packed-none n r h e = rw e (record { len = rw (name-none n h); third = rw (name-none n h); front = rw (name-none n h); back = rw (name-none n h) })
+
+-- the default that bit n of a number gives: `*` where it is set
+abbrev pub defaultBy : ℕ → ℕ → Default
+defaultBy stars n = pick (eqb (stars / 2 ^ n % 2) 1) star self
+
+-- the defaults of k features, from n on
+unfoldable pub defaultsBy : ℕ → ℕ → ℕ → List Default
+defaultsBy stars n zero = []
+defaultsBy stars n (suc k) = defaultBy stars n ∷ defaultsBy stars (suc n) k
+
+defaults-at : (stars n k i : ℕ) → i < k → getElem? (defaultsBy stars n k) i ≡ some (defaultBy stars (n + i))
+unfolding defaultsBy
+defaults-at stars n zero i h = absurd (not-suc-le-zero h)
+defaults-at stars n (suc k) zero h = rw (add-zero n)
+defaults-at stars n (suc k) (suc i) h = rw (add-suc n i, ← suc-add n i) (defaults-at stars (suc n) k i (le-of-suc-le-suc h))
+
+-- where they are the seventeen of document 01, each feature has its bit's
+module _ (stars n : ℕ) (e : defaultsBy stars 0 featureCount ≡ map rowDefault features) (h : n < featureCount) where
+  default-by : some (defaultBy stars n) ≡ defaultOf n
+  unfolding defaultOf
+  default-by = rw (← e, defaults-at stars 0 featureCount n h, zero-add n)
+
+  pub default-star : stars / 2 ^ n % 2 ≡ 1 → some star ≡ defaultOf n
+  unfolding pick
+  default-star t = rw (eq-eqb (stars / 2 ^ n % 2) 1 t) at default-by
+
+  pub default-self : (stars / 2 ^ n % 2 ≡ 1 → ⊥) → some self ≡ defaultOf n
+  unfolding pick
+  default-self t = rw (ne-eqb (stars / 2 ^ n % 2) 1 t) at default-by

@@ -163,16 +163,18 @@ pub enum DefaultOf {
     NoSuchFeature,
 }
 
+// Which features have default `*`, bit n for feature n: the table's defaults once more, in one number, since the table is built anew at each use.
+const STAR_DEFAULTS: u32 = 0b1111_1101_1000_1100;
+
 // The default allowlist of a feature; none for a number over 16.
 pub fn default_of(n: u32) -> DefaultOf
     ensures { λ r. ⌜ defaultIn r ≡ defaultOf n ⌝ }
 {
-    let i = n as usize;
-    if i < COUNT {
-        let d = entry(i).default;
-        match d {
-            DefaultAllowlist::All => DefaultOf::All,
-            DefaultAllowlist::SelfOnly => DefaultOf::SelfOnly,
+    if n < COUNT as u32 {
+        if (STAR_DEFAULTS >> n) % 2 == 1 {
+            DefaultOf::All
+        } else {
+            DefaultOf::SelfOnly
         }
     } else {
         DefaultOf::NoSuchFeature

@@ -6,9 +6,9 @@ use native.Mathlib.Omega.{arith}
 use lib.ListN.{length, getD, take, drop, length-take, length-drop, length-append}
 use lib.Seq.{getD-take, getD-drop}
 use Rattle.writing.specs.Writing.{withText}
-use Rattle.writing.proofs.Places.{put-long, put-nothing, get-below, get-above, get-here, with-append}
+use Rattle.writing.proofs.Places.{put-long, put-nothing, put-past, get-below, get-above, get-here, with-append}
 use Rattle.lent_bytes.specs.Numbers.{word, numberAt, bytesOf, bytesAt, numbersIn, numberBytes}
-pub use Rattle.writing.proofs.Places.{put-long, put-nothing, get-below, get-above, get-here, part-here, part-below, part-above, part-put, mid-put, part-front, with-append}
+pub use Rattle.writing.proofs.Places.{put-long, put-nothing, put-past, get-below, get-above, get-here, part-here, part-below, part-above, part-put, mid-put, part-front, with-append}
 
 pub bytes-long : (x : ℕ) → length (bytesOf x) ≡ 4
 unfolding bytesOf

@@ -47,7 +47,7 @@ fn small(x: u32) -> u8
 }
 
 // The four bytes of a number.
-pub fn bytes_of(x: u32) -> [u8; NUMBER]
+fn bytes_of(x: u32) -> [u8; NUMBER]
     ensures { λ r. ⌜ r ≡ bytesOf x ⌝ }
 {
     let a = small(x % 256);

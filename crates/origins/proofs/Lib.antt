@@ -1,4 +1,5 @@
 pub mod Hosts
+pub mod HostEnds
 pub mod Numbers
 pub mod Steps
 pub mod Ports

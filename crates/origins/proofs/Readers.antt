@@ -15,6 +15,11 @@ use Rattle.origins.specs.Expressions.{schemeSource, startsLowered, hostS
 use Rattle.origins.specs.Answers.{originAs, sourceAs}
 use Rattle.origins.specs.declared.Scheme.the-variants.{Http, Https}
 use Rattle.origins.specs.declared.OriginText.{OriginText}
+use Rattle.ascii.proofs.Clash.{clash}
+use Rattle.origins.specs.declared.Scheme.{Scheme}
+use Rattle.origins.specs.Steps.{bySchemes, IsScheme}
+use Rattle.origins.specs.declared.SchemeRead.{SchemeRead}
+use Rattle.origins.specs.declared.SchemeRead.the-variants as scheme
 use Rattle.origins.specs.declared.OriginText.the-variants as text
 use Rattle.origins.specs.declared.Source.{Source}
 use Rattle.origins.specs.declared.Source.the-variants as source
@@ -43,20 +48,38 @@ module _ (s : List ℕ) where
     unfolding originOf pick
     origin-null v = rw (empty-no s h, ← u, v)
 
-    module _ (v : a ≡ false) (b : Bool) (w : b ≡ startsWith (schemeSlashes Http) s) where
-      pub origin-http : b ≡ true → (r : OriginText) → r ≡ originAs (tupleOf Http (pastScheme Http s)) → r ≡ originAs (originOf s)
+    -- by the scheme that it begins with
+    module _ (v : a ≡ false) (p : SchemeRead) (is : IsScheme s p) where
+      rest : originOf s ≡ bySchemes s
       unfolding originOf pick
-      origin-http x r y = rw (empty-no s h, ← u, v, ← w, x) y
+      rest = rw (empty-no s h, ← u, v)
 
-      module _ (x : b ≡ false) (c : Bool) (y : c ≡ startsWith (schemeSlashes Https) s) where
-        pub origin-https : c ≡ true → (r : OriginText) → r ≡ originAs (tupleOf Https (pastScheme Https s)) → r ≡ originAs (originOf s)
-        unfolding originOf pick
-        origin-https z r e = rw (empty-no s h, ← u, v, ← w, x, ← y, z) e
+      pub origin-tuple : (k : Scheme) → p ≡ scheme.Of k → (r : OriginText) → r ≡ originAs (tupleOf k (pastScheme k s)) → r ≡ originAs (originOf s)
+      origin-tuple k e r y = y ∙ ap originAs (sym (rest ∙ is .of k e .1))
 
-        pub origin-other : c ≡ false → text.NotAnOrigin ≡ originAs (originOf s)
-        unfolding originOf pick
-        origin-other z = rw (empty-no s h, ← u, v, ← w, x, ← y, z)
+      pub origin-other : p ≡ scheme.None → text.NotAnOrigin ≡ originAs (originOf s)
+      origin-other e = ap originAs (sym (rest ∙ is .none-known e))
 
+pub scheme-long : (s : List ℕ) (p : SchemeRead) (k : Scheme) → IsScheme s p → p ≡ scheme.Of k → length (schemeSlashes k) ≤ length s
+scheme-long s p k is e = is .of k e .0
+
+-- the scheme
+module _ (s : List ℕ) (b : Bool) (w : b ≡ startsWith (schemeSlashes Http) s) where
+  pub scheme-http : b ≡ true → IsScheme s (scheme.Of Http)
+  unfolding pick
+  scheme-http x = record { of = λ k e. (let q : Http ≡ k = cc in rw (← q) (starts-long (schemeSlashes Http) s b w x, rw (← w, x))); none-known = λ e. clash cc }
+
+  module _ (x : b ≡ false) (c : Bool) (y : c ≡ startsWith (schemeSlashes Https) s) where
+    pub scheme-https : c ≡ true → IsScheme s (scheme.Of Https)
+    unfolding pick
+    scheme-https z = record { of = λ k e. (let q : Https ≡ k = cc in rw (← q) (starts-long (schemeSlashes Https) s c y z, rw (← w, x, ← y, z))); none-known = λ e. clash cc }
+
+    pub scheme-none : c ≡ false → IsScheme s scheme.None
+    unfolding pick
+    scheme-none z = record { of = λ k e. clash cc; none-known = λ e. rw (← w, x, ← y, z) }
+
+-- an expression
+module _ (s : List ℕ) where
   module _ (a : Bool) (u : a ≡ sameLowered s (schemeText Http)) where
     pub source-http : a ≡ true → (r : Source) → r ≡ sourceAs (some (schemeSource Http)) → r ≡ sourceAs (expressionOf s)
     unfolding expressionOf pick

@@ -1,6 +1,6 @@
 -- Past the scheme: a host and a port, read by places of the text. Assumes nothing.
 use mathlib.Core.Path.{_≡_, refl, ap, _∙_, sym}
-use Prim.Native.Nat.{ℕ, _+_, _-_, _≤_}
+use Prim.Native.Nat.{ℕ, _+_, _-_, _≤_, _<_, min}
 use mathlib.Core.List.{List}
 use mathlib.Core.Bool.{Bool, true, false, not}
 use mathlib.Core.Option.{Option, some, none}
@@ -21,7 +21,11 @@ use Rattle.origins.specs.Origins.{schemeSlashes, pastScheme, startsWith,
 use Rattle.origins.specs.Expressions.{HostPart, hostPartOf, withParts, hostSourceOf}
 use Rattle.origins.specs.Expressions.HostPart.{anyHost, exactHost, subdomainsOf}
 use Rattle.origins.specs.Answers.{originAs, sourceAs}
-use Rattle.origins.specs.Steps.{digitsAs, portAs, hostAs}
+use Rattle.limits.specs.Limits.{hostBytes}
+use Rattle.origins.specs.Steps.{digitsAs, portAs, hostAs, IsHostEnd}
+use Rattle.origins.specs.declared.HostEnd.{HostEnd}
+use Rattle.origins.specs.declared.HostEnd.the-variants as end
+use Rattle.origins.proofs.HostEnds.{host-none, host-run, host-over, host-good}
 use Rattle.origins.specs.declared.Scheme.{Scheme}
 use Rattle.origins.specs.declared.Digits.{Digits}
 use Rattle.origins.specs.declared.Digits.the-variants as digits
@@ -114,28 +118,21 @@ module _ (k : Scheme) (s : List ℕ) (from to : ℕ) (begins : from ≡ length (
   host-length : length (runOf notColon (drop from s)) ≡ to - from
   host-length = ap length (sym host-there) ∙ length-take (to - from) (drop from s) ∙ omega (arith, length-drop from s, run .upto)
 
-  module _ (b : Bool) (u : b ≡ isOriginHost (take (to - from) (drop from s))) where
-    good : isOriginHost (runOf notColon (drop from s)) ≡ b
-    good = rw (← host-there) (sym u)
-
-    pub tuple-no-host : not b ≡ true → text.NotAnOrigin ≡ originAs (tupleOf k (pastScheme k s))
+  -- a tuple origin, whose host is good
+  module _ (good : isOriginHost (runOf notColon (drop from s)) ≡ true) (r : Digits) (w : r ≡ digitsAs (originPort k (take (length s - to) (drop to s)))) where
+    at-port : tupleOf k (pastScheme k s) ≡ withPort k (runOf notColon (drop from s)) (originPort k (take (length s - to) (drop to s)))
     unfolding tupleOf pick
-    tuple-no-host v = rw (← begins, good, not-true b v)
+    at-port = rw (← begins, good, port-there)
 
-    module _ (v : not b ≡ false) (r : Digits) (w : r ≡ digitsAs (originPort k (take (length s - to) (drop to s)))) where
-      at-port : tupleOf k (pastScheme k s) ≡ withPort k (runOf notColon (drop from s)) (originPort k (take (length s - to) (drop to s)))
-      unfolding tupleOf pick
-      at-port = rw (← begins, good, not-false b v, port-there)
+    pub tuple-no-port : r ≡ digits.None → text.NotAnOrigin ≡ originAs (tupleOf k (pastScheme k s))
+    unfolding withPort
+    tuple-no-port e = rw (at-port, digits-none (originPort k (take (length s - to) (drop to s))) r w e)
 
-      pub tuple-no-port : r ≡ digits.None → text.NotAnOrigin ≡ originAs (tupleOf k (pastScheme k s))
-      unfolding withPort
-      tuple-no-port e = rw (at-port, digits-none (originPort k (take (length s - to) (drop to s))) r w e)
-
-      pub tuple-is : (n : ℕ) → r ≡ digits.Number n → text.Tuple (record { scheme = k; from = from; to = to; port = n }) ≡ originAs (tupleOf k (pastScheme k s))
-      unfolding withPort
-      tuple-is n e =
-          let t : to ≡ length (schemeSlashes k) + length (runOf notColon (drop from s)) = omega (arith, host-length, begins, run .from, run .upto) in
-          rw (at-port, digits-some (originPort k (take (length s - to) (drop to s))) r n w e, ← t, ← begins)
+    pub tuple-is : (n : ℕ) → r ≡ digits.Number n → text.Tuple (record { scheme = k; from = from; to = to; port = n }) ≡ originAs (tupleOf k (pastScheme k s))
+    unfolding withPort
+    tuple-is n e =
+        let t : to ≡ length (schemeSlashes k) + length (runOf notColon (drop from s)) = omega (arith, host-length, begins, run .from, run .upto) in
+        rw (at-port, digits-some (originPort k (take (length s - to) (drop to s))) r n w e, ← t, ← begins)
 
   -- a host-source
   module _ (r : PortRead) (w : r ≡ portAs (portPartOf (take (length s - to) (drop to s)))) where
@@ -170,3 +167,36 @@ module _ (k : Scheme) (s : List ℕ) (from to : ℕ) (begins : from ≡ length (
           let m = hosts-subdomains (lowered (take (to - from) (drop from s))) q u f in
           let t : to ≡ length (schemeSlashes k) + 2 + length (drop 2 (lowered (take (to - from) (drop from s)))) = omega (arith, length-drop 2 (lowered (take (to - from) (drop from s))), host-some (drop 2 (lowered (take (to - from) (drop from s)))) (m .1), each-length lower (take (to - from) (drop from s)), ap length host-there, host-length, begins, run .from, run .upto) in
           rw (at-host, m .0, ← t, ← begins)
+
+-- ---- a tuple origin, by the end of its host
+
+module _ (k : Scheme) (s : List ℕ) (from : ℕ) (begins : from ≡ length (schemeSlashes k)) (inside : length (schemeSlashes k) ≤ length s) (r : HostEnd) (is : IsHostEnd s from r) where
+  no-host : isOriginHost (runOf notColon (drop from s)) ≡ false → text.NotAnOrigin ≡ originAs (tupleOf k (pastScheme k s))
+  unfolding tupleOf pick
+  no-host bad = rw (← begins, bad)
+
+  pub tuple-bad-host : r ≡ end.None → text.NotAnOrigin ≡ originAs (tupleOf k (pastScheme k s))
+  tuple-bad-host e = no-host (host-none s from r is e)
+
+  module _ (to : ℕ) (at : r ≡ end.At to) where
+    run : IsRun (Not 58) s from to
+    run = host-run s from r is to at
+
+    pub end-from : from ≤ to
+    end-from = let a = run .from in omega arith
+
+    pub end-upto : to ≤ length s
+    end-upto = run .upto
+
+    pub tuple-long-host : hostBytes < to - from → text.NotAnOrigin ≡ originAs (tupleOf k (pastScheme k s))
+    tuple-long-host h = no-host (host-over s from r is to at (omega (arith, host-length k s from to begins inside run)))
+
+    module _ (short : to - from ≤ hostBytes) (p : Digits) (w : p ≡ digitsAs (originPort k (take (length s - to) (drop to s)))) where
+      good : isOriginHost (runOf notColon (drop from s)) ≡ true
+      good = host-good s from r is to at (omega (arith, host-length k s from to begins inside run))
+
+      pub tuple-bad-port : p ≡ digits.None → text.NotAnOrigin ≡ originAs (tupleOf k (pastScheme k s))
+      tuple-bad-port e = tuple-no-port k s from to begins inside run good p w e
+
+      pub tuple-read : (n : ℕ) → p ≡ digits.Number n → text.Tuple (record { scheme = k; from = from; to = to; port = n }) ≡ originAs (tupleOf k (pastScheme k s))
+      tuple-read n e = tuple-is k s from to begins inside run good p w n e

@@ -1,10 +1,25 @@
 -- What the private functions answer: steps of the readings.
-use Prim.Native.Nat.{ℕ}
+use Prim.Native.Nat.{ℕ, _≤_}
+use mathlib.Core.Path.{_≡_}
+use lib.ListN.{length, drop}
 use mathlib.Core.List.{List}
 use mathlib.Core.Bool.{Bool, true, false}
 use mathlib.Core.Option.{Option, some, none}
 use Rattle.ascii.specs.Bytes.{pick, lower}
+use Rattle.ascii.specs.Texts.{every}
+use Rattle.ascii.specs.Reading.{runOf}
+use Rattle.ascii.specs.Places.{IsRun}
+use Rattle.ascii.specs.declared.Class.the-variants.{Not}
 use Rattle.ascii.specs.Decimals.{decimal}
+use Rattle.origins.specs.Hosts.{labels, isLabel}
+use Rattle.origins.specs.Origins.{OriginSaid, schemeSlashes, pastScheme, startsWith, notColon, tupleOf}
+use Rattle.origins.specs.Origins.OriginSaid.{noOrigin}
+use Rattle.origins.specs.declared.Scheme.{Scheme}
+use Rattle.origins.specs.declared.Scheme.the-variants.{Http, Https}
+use Rattle.origins.specs.declared.SchemeRead.{SchemeRead}
+use Rattle.origins.specs.declared.SchemeRead.the-variants as scheme
+use Rattle.origins.specs.declared.HostEnd.{HostEnd}
+use Rattle.origins.specs.declared.HostEnd.the-variants as end
 use Rattle.origins.specs.Ports.{isPortPart}
 use Rattle.origins.specs.Expressions.{HostPart}
 use Rattle.origins.specs.Expressions.HostPart.{noHost, anyHost, exactHost, subdomainsOf}
@@ -30,6 +45,27 @@ portNumber ds = pick (isPortPart ds) (some (decimal ds)) none
 abbrev pub digitsAs : Option ℕ → Digits
 digitsAs (some n) = digits.Number n
 digitsAs none = digits.None
+
+-- a host that ends at a place; none where a label was to start there
+abbrev pub endedAt : ℕ → Bool → HostEnd
+endedAt i starts = pick starts end.None (end.At i)
+
+-- whether the labels up to a colon are good, of the text from a place on
+abbrev pub hostLabels : List ℕ → ℕ → Bool
+hostLabels s from = every isLabel (labels (runOf notColon (drop from s)))
+
+-- where the run up to a colon ends, if its labels are good
+pub record IsHostEnd (s : List ℕ) (from : ℕ) (r : HostEnd) : Type 0 where
+  pub some-at : (e : ℕ) → r ≡ end.At e → IsRun (Not 58) s from e × (hostLabels s from ≡ true)
+  pub none-good : r ≡ end.None → hostLabels s from ≡ false
+
+-- what a text says that is neither empty nor `null`, by its scheme
+abbrev pub bySchemes : List ℕ → OriginSaid
+bySchemes s = pick (startsWith (schemeSlashes Http) s) (tupleOf Http (pastScheme Http s)) (pick (startsWith (schemeSlashes Https) s) (tupleOf Https (pastScheme Https s)) noOrigin)
+
+pub record IsScheme (s : List ℕ) (r : SchemeRead) : Type 0 where
+  pub of : (k : Scheme) → r ≡ scheme.Of k → (length (schemeSlashes k) ≤ length s) × (bySchemes s ≡ tupleOf k (pastScheme k s))
+  pub none-known : r ≡ scheme.None → bySchemes s ≡ noOrigin
 
 abbrev pub portAs : Option PortPart → PortRead
 portAs (some p) = port.Part p

@@ -5,16 +5,17 @@ ghost use Prim.Native.Nat.{_≤_, _<_, _-_, _+_};
 ghost use lib.ListN.{length};
 ghost use mathlib.Core.Option.{some};
 ghost use Rattle.ascii.specs.Texts.{every, lowered, each, sameBytes};
-ghost use Rattle.origins.specs.Hosts.{labels, isLabel, isHost, isOriginHost};
+ghost use Rattle.ascii.specs.Places.{IsRun};
+ghost use Rattle.ascii.specs.declared.Class.the-variants.{Not};
+ghost use Rattle.origins.specs.Hosts.{labels, isLabel, isHost};
 ghost use Rattle.ascii.specs.Decimals.{leadsZero};
 ghost use Rattle.origins.specs.Ports.{defaultPort, originPort, portPartOf};
 ghost use Rattle.origins.specs.Origins.{schemeSlashes, pastScheme, startsWith, originOf, tupleOf};
 ghost use Rattle.origins.specs.Expressions.{schemeSource, startsLowered, hostPartOf, hostSourceOf, expressionOf};
-ghost use Rattle.origins.specs.Steps.{fold, portNumber, digitsAs, portAs, hostAs, sameKind};
+ghost use Rattle.origins.specs.Steps.{fold, endedAt, IsHostEnd, IsScheme, portNumber, digitsAs, portAs, hostAs, sameKind};
 ghost use Rattle.origins.specs.Matching.{sameScheme, schemeAdmits, endsIn, portAdmits, admitsTuple, admits, sameTuple, sameOrigin};
 ghost use Rattle.origins.specs.Answers.{originAs, sourceAs, tupleIn, originIn, hostIn, expressionIn, expressionBy, tupleBy, IsPortText};
 ghost use Rattle.origins.specs.NormalForms.{isDropped, normalPort, normal, sameHost, samePort, sameExpression};
-use ascii::Class;
 use limits::HOST_BYTES;
 use limits::LAST_PORT;
 use limits::PORT_DIGITS;
@@ -133,11 +134,49 @@ fn is_host(h: &[u8], anycase: bool) -> bool
     labels_good(h, anycase)
 }
 
-// Whether a text is a host as origin texts have them.
-fn is_origin_host(h: &[u8]) -> bool
-    ensures { λ r. ⌜ r ≡ isOriginHost (now (h .entry)) ⌝ }
+// Where the host of an origin text ends.
+enum HostEnd {
+    At(usize),
+    None,
+}
+
+fn ended(i: usize, starts: bool) -> HostEnd
+    ensures { λ r. ⌜ r ≡ endedAt i starts ⌝ }
 {
-    is_host(h, false)
+    if starts {
+        HostEnd::None
+    } else {
+        HostEnd::At(i)
+    }
+}
+
+// Where the host ends that starts at a place: at a colon or with the text, if every label up to there is good. Both are found in one pass.
+fn host_end(s: &[u8], from: usize) -> HostEnd
+    requires { ⌜ from ≤ length (now s) ⌝ }
+    ensures { λ r. ⌜ IsHostEnd (now (s .entry)) from r ⌝ }
+{
+    let mut i = from;
+    let mut starts = true;
+    while i < s.len() {
+        let b = s[i];
+        if b == b':' {
+            return ended(i, starts);
+        }
+        if b == b'.' {
+            if starts {
+                return HostEnd::None;
+            }
+            starts = true;
+            i += 1;
+        } else {
+            if !ascii::is_label_byte(b) {
+                return HostEnd::None;
+            }
+            starts = false;
+            i += 1;
+        }
+    }
+    ended(i, starts)
 }
 
 // A port's digits, read.
@@ -228,18 +267,22 @@ fn tuple(s: &[u8], k: Scheme) -> OriginText
     ensures { λ r. ⌜ r ≡ originAs (tupleOf k (pastScheme k (now (s .entry)))) ⌝ }
 {
     let from = slashes_length(k);
-    let to = ascii::run_end(s, from, Class::Not(b':'));
-    if !is_origin_host(&s[from..to]) {
-        return OriginText::NotAnOrigin;
-    }
-    match origin_port(&s[to..], k) {
-        Digits::Number(n) => OriginText::Tuple(TupleRange {
-            scheme: k,
-            from,
-            to,
-            port: n,
-        }),
-        Digits::None => OriginText::NotAnOrigin,
+    match host_end(s, from) {
+        HostEnd::At(to) => {
+            if HOST_BYTES < to - from {
+                return OriginText::NotAnOrigin;
+            }
+            match origin_port(&s[to..], k) {
+                Digits::Number(n) => OriginText::Tuple(TupleRange {
+                    scheme: k,
+                    from,
+                    to,
+                    port: n,
+                }),
+                Digits::None => OriginText::NotAnOrigin,
+            }
+        }
+        HostEnd::None => OriginText::NotAnOrigin,
     }
 }
 
@@ -249,6 +292,24 @@ fn starts_with(s: &[u8], t: &[u8]) -> bool
 {
     let n = ascii::place(s, t.len());
     ascii::same(&s[..n], t)
+}
+
+// The scheme that a text begins with, `://` included.
+enum SchemeRead {
+    Of(Scheme),
+    None,
+}
+
+fn scheme_of(s: &[u8]) -> SchemeRead
+    ensures { λ r. ⌜ IsScheme (now (s .entry)) r ⌝ }
+{
+    if starts_with(s, b"http://") {
+        return SchemeRead::Of(Scheme::Http);
+    }
+    if starts_with(s, b"https://") {
+        return SchemeRead::Of(Scheme::Https);
+    }
+    SchemeRead::None
 }
 
 // What an origin text says.
@@ -261,13 +322,10 @@ pub fn origin_text(s: &[u8]) -> OriginText
     if ascii::same(s, b"null") {
         return OriginText::Null;
     }
-    if starts_with(s, b"http://") {
-        return tuple(s, Scheme::Http);
+    match scheme_of(s) {
+        SchemeRead::Of(k) => tuple(s, k),
+        SchemeRead::None => OriginText::NotAnOrigin,
     }
-    if starts_with(s, b"https://") {
-        return tuple(s, Scheme::Https);
-    }
-    OriginText::NotAnOrigin
 }
 
 // An expression's port-part, read.
@@ -329,13 +387,29 @@ fn host_part(h: &[u8]) -> HostRead
     }
 }
 
+// The first colon from a place on, or the end of the text.
+fn colon_end(s: &[u8], from: usize) -> usize
+    requires { ⌜ from ≤ length (now s) ⌝ }
+    ensures { λ r. ⌜ IsRun (Not 58) (now (s .entry)) from r ⌝ }
+{
+    let mut i = from;
+    while i < s.len() {
+        let b = s[i];
+        if b == b':' {
+            return i;
+        }
+        i += 1;
+    }
+    i
+}
+
 // A host-source, past its scheme and `://`.
 fn host_source(s: &[u8], k: Scheme) -> Source
     requires { ⌜ length (schemeSlashes k) ≤ length (now s) ⌝ }
     ensures { λ r. ⌜ r ≡ sourceAs (hostSourceOf k (pastScheme k (now (s .entry)))) ⌝ }
 {
     let from = slashes_length(k);
-    let to = ascii::run_end(s, from, Class::Not(b':'));
+    let to = colon_end(s, from);
     match port_part(&s[to..]) {
         PortRead::Part(p) => match host_part(&s[from..to]) {
             HostRead::Any => Source::Expression(ExpressionRange {

@@ -64,6 +64,13 @@ module _ (t l : List ℕ) (at p n : ℕ) where
   pub part-above : at + length t ≤ p → take n (drop p (withText l at t)) ≡ take n (drop p l)
   part-above h = part-same (λ j lt. get-above t l at (p + j) (omega arith))
 
+-- what stands past a text that is put stays
+pub put-past : (l t : List ℕ) (at e : ℕ) → at + length t ≤ e → drop e (withText l at t) ≡ drop e l
+put-past l t at e h =
+    ext-getD 0 (drop e (withText l at t)) (drop e l)
+    (simp length-drop (rw (put-long l at t) refl))
+    (λ j lt. rw (getD-drop e (withText l at t) j 0, getD-drop e l j 0) (get-above t l at (e + j) (omega arith)))
+
 -- a run in which a part was replaced
 pub part-put : (l t : List ℕ) (at e : ℕ) → e ≤ length l → at + length t ≡ e → take at l ++ t ++ drop e l ≡ withText l at t
 unfolding withText

@@ -7,14 +7,14 @@ use lib.ListN.{length}
 use Rattle.writing.specs.Writing.{withText}
 use Rattle.limits.specs.Limits.{documentLimit}
 use Rattle.document_model.specs.Model.{valuesFrom}
-use Rattle.document_table.specs.Layout.{directoryPlace}
+use Rattle.document_table.specs.Layout.{slotNumbersPlace}
 use Rattle.document_table.proofs.Writing.{free-none, free-more, free-all}
 use borrow.Author.Needs.{needs}
 use Rattle.document_table.proofs.free_slots.Statement.{statement}
 use Rattle.document_table.proofs.free_slots.Tie as tie
 
 abbrev Inv-loop : tie.InvT-loop
-Inv-loop run₀ i₀ run i = (i ≤ documentLimit) × (length run ≡ length run₀) × (run ≡ withText run₀ directoryPlace (valuesFrom (λ n. n) 0 i))
+Inv-loop run₀ i₀ run i = (i ≤ documentLimit) × (length run ≡ length run₀) × (run ≡ withText run₀ slotNumbersPlace (valuesFrom (λ n. n) 0 i))
 
 abbrev μ-loop : tie.MeasureT-loop
 μ-loop run₀ i₀ run i = documentLimit - i

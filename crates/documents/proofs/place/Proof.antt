@@ -19,6 +19,6 @@ place-spec =
     (λ c. search needs)
     (λ c. search needs)
     (λ c κs. search needs)
-    (λ c κs. let z : c .before .before .before .before .before .slot-place .result + slotBytes - c .before .before .before .before .before .slot-place .result ≡ slotBytes = omega arith in push-asks _ _ _ _ _ (c .before .before .before .before .before .before .before .before .before .before .before .args .d) _ _ (c .before .before .before .before .before .before .before .before .before .before .before .pre .0) (c .before .before .before .before .before .before .before .count .ensures) (c .before .before .before .before .before .slot-place .ensures) z (c .before .before .before .write-document .ensures))
+    (λ c κs. let z : c .before .before .before .before .before .slot-place .result + slotBytes - c .before .before .before .before .before .slot-place .result ≡ slotBytes = omega arith in push-asks _ _ _ _ _ (c .before .before .before .before .before .before .before .before .before .before .before .args .d) _ _ (c .before .before .before .before .before .before .before .before .before .before .before .pre .0) (c .before .before .before .before .before .before .before .count .ensures) (c .before .before .before .before .before .slot-place .ensures) z (c .before .before .before .write-document .ensures) (c .before .before .before .before .before .before .before .before .before .before .before .pre .2))
     (λ c. search needs)
-    (λ c. let z : c .before .before .before .before .before .before .before .before .slot-place .result + slotBytes - c .before .before .before .before .before .before .before .before .slot-place .result ≡ slotBytes = omega arith in (is-placed _ _ _ _ _ (c .before .before .before .before .before .before .before .before .before .before .before .before .before .before .args .d) _ _ (c .before .before .before .before .before .before .before .before .before .before .before .before .before .before .pre .0) (c .before .before .before .before .before .before .before .before .before .before .count .ensures) (c .before .before .before .before .before .before .before .before .slot-place .ensures) z (c .before .before .before .before .before .before .write-document .ensures) _ _ (c .before .before .push .ensures), refl)))
+    (λ c. let z : c .before .before .before .before .before .before .before .before .slot-place .result + slotBytes - c .before .before .before .before .before .before .before .before .slot-place .result ≡ slotBytes = omega arith in (is-placed _ _ _ _ _ (c .before .before .before .before .before .before .before .before .before .before .before .before .before .before .args .d) _ _ (c .before .before .before .before .before .before .before .before .before .before .before .before .before .before .pre .0) (c .before .before .before .before .before .before .before .before .before .before .count .ensures) (c .before .before .before .before .before .before .before .before .slot-place .ensures) z (c .before .before .before .before .before .before .write-document .ensures) (c .before .before .before .before .before .before .before .before .before .before .before .before .before .before .pre .2) _ _ (c .before .before .push .ensures), refl)))

@@ -1,6 +1,6 @@
--- `tuple` is right: the run up to a colon is the host, what is left is the port, and both are read as in the definition.
+-- `tuple` is right: the host up to a colon, if it is good, and what is left is the port, both read as in the definition.
+use Rattle.origins.proofs.Sources.{end-from, end-upto, tuple-bad-host, tuple-long-host, tuple-bad-port, tuple-read}
 use borrow.Author.Needs.{needs}
-use Rattle.origins.proofs.Sources.{tuple-no-host, tuple-no-port, tuple-is}
 use Rattle.origins.proofs.tuple.Statement.{statement}
 use Rattle.origins.proofs.tuple.Tie as tie
 
@@ -11,19 +11,15 @@ tuple-spec =
     (λ c κs. search needs)
     (λ c κs. search needs)
     (λ c. search needs)
-    (λ c. search needs)
-    (λ c. search needs)
-    (λ c κs. search needs)
-    (λ c. search tuple-no-host)
-    (λ c. search needs)
-    (λ c. search needs)
+    (λ c. search end-from)
+    (λ c. search tuple-long-host)
+    (λ c. search end-upto)
+    (λ c. search end-upto)
     (λ c. search needs)
     (λ c κs. search needs)
     (λ c. search needs)
     (λ c. search needs)
-    (λ c.
-    let p = c .before .before .before in
-    let l = p .before .before in
-    let h = l .before .before .before in
-    tuple-is _ _ _ _ (h .before .slashes-length .ensures) (h .before .before .before .pre) (h .run-end .ensures) _ (l .before .is-origin-host .ensures) (l .if1 .left) _ (p .origin-port .ensures) _ (c .before .n .given .1))
-    (λ c. search tuple-no-port))
+    (λ c. search needs)
+    (λ c. search tuple-read)
+    (λ c. search tuple-bad-port)
+    (λ c. search tuple-bad-host))
