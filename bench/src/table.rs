@@ -22,6 +22,16 @@ pub fn header(bytes: usize) -> Vec<u8> {
     t.into_bytes()
 }
 
+/// A header of exactly so many bytes with one list, whose expressions all differ; the last host is made longer to fill it up.
+fn list(bytes: usize) -> Vec<u8> {
+    let item = |i: usize, pad: usize| format!("{}\"https://a{i}{}.example\"", if i > 0 { " " } else { "" }, "x".repeat(pad));
+    let (mut n, mut size) = (0, "camera=()".len());
+    while size + item(n, 0).len() <= bytes { size += item(n, 0).len(); n += 1; }
+    let t = format!("camera=({})", (0..n).map(|i| item(i, if i + 1 == n { bytes - size } else { 0 })).collect::<String>());
+    assert_eq!(t.len(), bytes, "no list has {bytes} bytes");
+    t.into_bytes()
+}
+
 /// 64 documents with such a header, all at the top or each in a frame of the one before.
 fn loaded(bytes: usize, chain: bool) -> Vec<u8> {
     let h = header(bytes);
@@ -90,6 +100,8 @@ fn main() {
         Some("tidy") => tidy(number(2, 100)),
         Some("stack") => stack::main(),
         Some("header") => std::io::stdout().write_all(&header(number(2, 0))).unwrap(),
-        _ => { eprintln!("usage: table questions [SEED [ROUNDS [KIND]]] | unload | load [TIMES] <HEADER | tidy [TIMES] <HEADER | header BYTES | stack"); std::process::exit(2); }
+        Some("bytes") => println!("{}", proved::table_bytes()),
+        Some("list") => std::io::stdout().write_all(&list(number(2, 0))).unwrap(),
+        _ => { eprintln!("usage: table questions [SEED [ROUNDS [KIND]]] | unload | load [TIMES] <HEADER | tidy [TIMES] <HEADER | header BYTES | list BYTES | bytes | stack"); std::process::exit(2); }
     }
 }

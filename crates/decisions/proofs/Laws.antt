@@ -1,4 +1,4 @@
--- The laws of decisions, for the crates above: nothing there opens a definition of this crate. Assumes nothing.
+-- The laws of decisions, for the crates above, here and in Everywhere (Enabled at a fresh origin is Enabled at every one): nothing there opens a definition of this crate. Assumes nothing.
 use mathlib.Core.Path.{_≡_, refl, ap, _∙_, sym, subst}
 use Prim.Native.Nat.{ℕ, zero, suc, _+_, _*_, _^_, _/_, _%_, _<_, _≤_}
 use mathlib.Core.List.{List}

@@ -1,8 +1,7 @@
 -- The document that a load makes, and what a frame would inherit, in the terms of the code. Assumes nothing.
-use mathlib.Core.Path.{_≡_, refl, ap, sym, _∙_, subst}
+use mathlib.Core.Path.{_≡_, refl, ap, sym, _∙_}
 use Prim.Native.Nat.{ℕ, suc, _+_, _*_, _≤_, _<_, _^_}
 use native.Mathlib.Omega.{arith}
-use native.Mathlib.Numerals.{add-one}
 use mathlib.Core.List.{List, [], _∷_, _++_}
 use mathlib.Core.Bool.{Bool, true, false}
 use mathlib.Core.Option.{Option, some, none}
@@ -26,17 +25,16 @@ use Rattle.containers.specs.Answers.{IsSandboxed, IsDeclared, declaredIn}
 use Rattle.containers.specs.declared.DeclaredOrigin.{DeclaredOrigin}
 use Rattle.containers.specs.declared.DeclaredOrigin.the-variants as declared
 use Rattle.containers.proofs.Laws.{policy-attributes}
-use Rattle.decisions.specs.Decisions.{inheritedTop}
 use Rattle.decisions.specs.Masks.{maskOf}
-use Rattle.decisions.specs.Policies.{inheritedIn, forecast}
+use Rattle.decisions.specs.Policies.{inheritedIn}
 use Rattle.decisions.proofs.Laws.{top-mask, mask-below, forecast-parts}
-use Rattle.document_model.specs.Model.{Text, Identity, arrivesAt, orFresh, frameDeclared, frameSandboxed, frameOf, topIdentity, framedIdentity}
+use Rattle.document_model.specs.Model.{arrivesAt, orFresh, frameDeclared, frameSandboxed, frameOf}
 use Rattle.document_model.proofs.Parts.{frame-sandboxed, frame-declared, top-identity, framed-identity}
-use Rattle.document_records.specs.Slots.{slotBytes, originBytes, originBytesOf, depthPlace, opaquePlace, depthIn, aboveBytes, ownText, ownOrigin, isSandboxedIn, documentIn, slotPolicy, Kept, GoodSlot}
-use Rattle.document_records.specs.Records.{IsOwnRange, IsDeclaredOrigin, IsInherited}
-use Rattle.document_records.proofs.Laws.{document-parts, document-serial, document-above, document-origin, document-sandboxed}
-use Rattle.document_loads.specs.Slots.{filled, Fits, KeptOrigin, IsNewDocument}
-use Rattle.document_loads.specs.Loads.{attributes, IsAt, Arrives, IsTopDocument, framedIn, inheritsIn, IsFramedDocument, Foretells}
+use Rattle.document_records.specs.Slots.{originBytes, originBytesOf, depthPlace, opaquePlace, depthIn, aboveBytes, ownText, ownOrigin, isSandboxedIn, documentIn, slotPolicy, Kept, GoodSlot}
+use Rattle.document_records.specs.Records.{IsOwnRange, declaredIs, IsInherited}
+use Rattle.document_records.proofs.Laws.{document-serial, document-above, document-origin, document-sandboxed}
+use Rattle.document_loads.specs.Slots.{filled, KeptOrigin}
+use Rattle.document_loads.specs.Loads.{attributes, IsAt, Arrives, IsTopDocument, IsFramedDocument, Foretells}
 use Rattle.document_loads.specs.declared.FrameMarks.{FrameMarks}
 use Rattle.document_loads.specs.declared.Arrival.{Arrival}
 use Rattle.document_loads.proofs.Putting.{filled-long, filled-front, filled-none}
@@ -79,9 +77,9 @@ declared-is s c a w b x d ew h k e =
     ∙ rw (document-sandboxed s c, document-origin s c) (ap orFresh (sym (k .says a (isSandboxedIn c) (ownOrigin c) (h .says a refl refl ∙ rw ew refl) e)))
 
 -- whether the arriving origin is the declared one
-arrives-declared : (container : Origin) (d : DeclaredOrigin) (src : List ℕ) (o : Origin) (r : Bool) → IsDeclaredOrigin container d src o r → (x : Option Origin) → declaredIn src container d ≡ x → r ≡ sameOrigin (orFresh x) o
-arrives-declared container d src o r h (some x) e = h .says x e
-arrives-declared container d src o r h none e = h .none-declared e ∙ sym (fresh-left o)
+arrives-declared : (x : Option Origin) (o : Origin) → declaredIs x o ≡ sameOrigin (orFresh x) o
+arrives-declared (some x) o = refl
+arrives-declared none o = sym (fresh-left o)
 
 above-many : (c : List ℕ) → Kept c → length (numbersIn (aboveBytes c)) ≡ depthIn c
 above-many c k = let a = k .long in let d = k .depth in numbers-length (depthIn c) (aboveBytes c) (rw (length-take, length-drop) (omega arith))
@@ -97,7 +95,7 @@ pub is-framed : (c : List ℕ) (s : ℕ) (o : List ℕ) (n : ℕ) (x : OriginTex
     → u ≡ ownText c
     → q ≡ numberAt c opaquePlace
     → Arrives o u q own n at
-    → IsDeclaredOrigin (ownOrigin c) d src (originIn (take (at .length) (at .text)) (at .origin)) same
+    → same ≡ declaredIs (declaredIn src (ownOrigin c) d) (originIn (take (at .length) (at .text)) (at .origin))
     → IsInherited (slotPolicy c) allow (marks .allowfullscreen) (sandboxWords (marks .«has_sandbox») sandbox) same (originIn (take (at .length) (at .text)) (at .origin)) m
     → (above ≡ filled (4 * documentLimit) (bytesOf s ++ aboveBytes c)) × (s < 2 ^ 32)
     → k ≡ numberAt c depthPlace
@@ -112,7 +110,8 @@ is-framed c s o n x allow marks sandbox src box b same d own u q at m above k j 
     let here : originIn (take (at .length) (at .text)) (at .origin) ≡ arrivesAt (originOf o) (ownOrigin c) n = w .here in
     let size = text-long o u q own n at (arrivesAt (originOf o) (ownOrigin c) n) arrives (w .kept .bytes) in
     let test : same ≡ sameOrigin (frameDeclared (documentIn s c .identity) (attributes allow marks sandbox src)) (originIn (take (at .length) (at .text)) (at .origin)) =
-    arrives-declared (ownOrigin c) d src (originIn (take (at .length) (at .text)) (at .origin)) same is (declaredIn src (ownOrigin c) d) refl
+    is
+    ∙ arrives-declared (declaredIn src (ownOrigin c) d) (originIn (take (at .length) (at .text)) (at .origin))
     ∙ ap (λ (y : Origin). sameOrigin y (originIn (take (at .length) (at .text)) (at .origin))) (sym (declared-is s c a box b x d ebox boxed ds read-src)) in
     let bits : m ≡ maskOf (inheritedIn (slotPolicy c) (frameOf (documentIn s c .identity) (attributes allow marks sandbox src)) (arrivesAt (originOf o) (ownOrigin c) n)) =
     i .says f (policy-attributes a) test ∙ ap (λ (y : Origin). maskOf (inheritedIn (slotPolicy c) (frameOf (documentIn s c .identity) (attributes allow marks sandbox src)) y)) here in

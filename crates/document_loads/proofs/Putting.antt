@@ -1,31 +1,30 @@
 -- What the functions that write a slot leave, in the terms of the code. Assumes nothing.
 use mathlib.Core.Path.{_≡_, refl, ap, sym, _∙_}
-use Prim.Native.Nat.{ℕ, _+_, _-_, _*_, _≤_, _<_, _^_}
+use Prim.Native.Nat.{ℕ, _+_, _*_, _≤_}
 use mathlib.Core.List.{List, [], _∷_, _++_}
 use mathlib.Core.Bool.{Bool, true, false}
 use native.Mathlib.Omega.{arith}
 use lib.Dec.{ltb, leb}
 use lib.ListN.{length, take, drop, replicate, length-replicate, length-take, length-drop, take-append-drop}
-use lib.Seq.{length-take-le}
 use borrow.Author.Tests.{le-ltb, lt-ltb, le-leb, leb-true, leb-false}
 use Rattle.ascii.proofs.Clash.{clash}
 use Rattle.ascii.specs.Bytes.{pick}
 use Rattle.writing.specs.Writing.{withText}
 use Rattle.limits.specs.Limits.{textBytes, documentLimit}
-use Rattle.lent_bytes.specs.Numbers.{numberAt, bytesOf, numberBytes, bytesAt}
-use Rattle.lent_bytes.proofs.Laws.{bytes-long, put-nothing, put-long, put-on, put-numbers, one-number, part-here, mid-put, part-front}
+use Rattle.lent_bytes.specs.Numbers.{bytesOf, numberBytes}
+use Rattle.lent_bytes.proofs.Laws.{put-nothing, put-long, put-on, put-numbers, one-number, part-here, mid-put, part-front}
 use Rattle.declarations.specs.Declarations.{isMalformed}
 use Rattle.settled.specs.Settled.{headBytes}
 use Rattle.settling.specs.Writing.{settledBytes}
-use Rattle.settling.specs.Promises.{IsSettled, IsSettledIn, answerOf, Answer}
+use Rattle.settling.specs.Promises.{IsSettled, answerOf, Answer}
 use Rattle.settling.specs.declared.Settled.{Settled}
 use Rattle.settling.specs.declared.Settled.the-variants as settled
 use Rattle.settling.specs.declared.SettledHeader.{SettledHeader}
 use Rattle.decisions.specs.Masks.{maskOf}
 use Rattle.decisions.specs.Policies.{questionIn, enabledMask}
 use Rattle.origins.specs.Origins.Origin.{fresh}
-use Rattle.document_records.specs.Slots.{slotBytes, originBytes, settledLimit, everywherePlace, enabledPlace, depthPlace, inheritedPlace, opaquePlace, ownLengthPlace, sandboxedPlace, abovePlace, ownTextPlace, settledPlace, depthIn, aboveBytes, slotPolicy, Kept, GoodSlot}
-use Rattle.document_loads.specs.Slots.{filled, markNumber, numbersOf, frontPut, headerBytes, headerMalformed, PutsHeader, withDecisions, Fits}
+use Rattle.document_records.specs.Slots.{slotBytes, settledLimit, everywherePlace, enabledPlace, depthPlace, inheritedPlace, opaquePlace, ownLengthPlace, sandboxedPlace, abovePlace, ownTextPlace, settledPlace, aboveBytes, slotPolicy, GoodSlot}
+use Rattle.document_loads.specs.Slots.{filled, markNumber, numbersOf, frontPut, headerBytes, headerMalformed, PutsHeader, withDecisions}
 use Rattle.document_loads.specs.declared.NewDocument.{NewDocument}
 
 -- ---- a text at the front of an array
@@ -42,9 +41,6 @@ filled-none n = sym (put-nothing (replicate n 0) 0)
 pub above-fits : (c u : List ℕ) → GoodSlot c → u ≡ aboveBytes c → 4 + length u ≤ 4 * documentLimit
 above-fits c u g e = let a = g .kept .long in let s = g .shallow in rw (e, length-take, length-drop) (omega arith)
 
-pub above-long : (c : List ℕ) → Kept c → length (aboveBytes c) ≡ 4 * depthIn c
-above-long c k = let a = k .long in let d = k .depth in rw (length-take, length-drop) (omega arith)
-
 pub above-is : (one two c u : List ℕ) (s : ℕ) → u ≡ aboveBytes c → one ≡ withText (replicate (4 * documentLimit) 0) 0 (bytesOf s) → two ≡ withText one 4 u → two ≡ filled (4 * documentLimit) (bytesOf s ++ aboveBytes c)
 above-is one two c u s eu e f = f ∙ (ap (λ (l : List ℕ). withText l 4 u) e ∙ (put-on (replicate (4 * documentLimit) 0) 0 s u ∙ ap (λ (l : List ℕ). filled (4 * documentLimit) (bytesOf s ++ l)) eu))
 
@@ -60,16 +56,7 @@ five-put s s1 s2 s3 s4 s5 d m e5 e4 e3 e2 e1 em =
     let x2 : s5 ≡ withText s1 inheritedPlace (numberBytes (d .inherited ∷ d .number ∷ d .length ∷ markNumber (d .sandboxed) ∷ [])) = x3 ∙ (ap (λ (l : List ℕ). withText l opaquePlace (numberBytes (d .number ∷ d .length ∷ markNumber (d .sandboxed) ∷ []))) e2 ∙ put-numbers s1 inheritedPlace (d .inherited) (d .number ∷ d .length ∷ f ∷ [])) in
     x2 ∙ (ap (λ (l : List ℕ). withText l inheritedPlace (numberBytes (d .inherited ∷ d .number ∷ d .length ∷ markNumber (d .sandboxed) ∷ []))) e1 ∙ put-numbers s depthPlace (d .depth) (d .inherited ∷ d .number ∷ d .length ∷ f ∷ []))
 
-pub marked-yes : (b : Bool) → b ≡ true → 1 ≡ markNumber b
-marked-yes b e = rw e refl
-
-pub marked-no : (b : Bool) → b ≡ false → 0 ≡ markNumber b
-marked-no b e = rw e refl
-
 -- ---- the front
-
-pub part-room : (l : List ℕ) (n m k : ℕ) → n ≤ k → length l ≡ k → m ≡ n → length (take m l) ≡ m
-part-room l n m k le long e = length-take-le m l (omega arith)
 
 pub fronted : (s s1 s2 s3 : List ℕ) (d : NewDocument) (n m : ℕ) → s3 ≡ withText s2 ownTextPlace (take m (d .text)) → s2 ≡ withText s1 abovePlace (take (4 * n) (d .above)) → s1 ≡ withText s depthPlace (numberBytes (numbersOf d)) → n ≡ d .depth → m ≡ d .length → s3 ≡ frontPut s d
 fronted s s1 s2 s3 d n m e f g en em = rw (e, f, g, en, em) refl

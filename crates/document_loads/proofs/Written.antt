@@ -5,42 +5,45 @@ use mathlib.Core.List.{List, [], _∷_, _++_, append-assoc}
 use mathlib.Core.Bool.{Bool, true, false, not}
 use native.Mathlib.Omega.{arith}
 use lib.Dec.{eqb}
-use lib.ListN.{length, getD, take, drop, length-take, length-drop}
+use lib.ListN.{length, getD, take, drop}
 use lib.Seq.{length-take-le, drop-at, take-append-add}
 use Rattle.writing.specs.Writing.{withText}
 use Rattle.limits.specs.Limits.{textBytes, documentLimit}
 use Rattle.lent_bytes.specs.Numbers.{numberAt, bytesAt, numbersIn, numberBytes}
 use Rattle.lent_bytes.proofs.Laws.{put-long, number-of, number-below, number-above, part-here, part-below, part-above, part-put, with-append, bytes-append, number-bytes-long}
 use Rattle.features.specs.Features.{featureCount}
-use Rattle.origins.specs.Origins.{Origin, OriginSaid, originOf}
+use Rattle.origins.specs.Origins.{originOf}
 use Rattle.origins.specs.Origins.Origin.{fresh}
-use Rattle.declarations.specs.Declarations.{declares, isMalformed}
+use Rattle.declarations.specs.Declarations.{declares}
 use Rattle.settled.specs.Settled.{declaredIn}
 use Rattle.settling.specs.Writing.{settledBytes}
 use Rattle.settling.proofs.Laws.{settled-says}
-use Rattle.decisions.specs.Decisions.{Decision}
 use Rattle.decisions.specs.Masks.{maskOf}
 use Rattle.decisions.specs.Policies.{Policy, questionIn, enabledMask}
 use Rattle.decisions.proofs.Laws.{mask-below, enabled-parts}
-use Rattle.document_model.specs.Model.{Text, Identity, Document, valuesFrom, declaredBy, policyOf}
+use Rattle.document_model.specs.Model.{Text, Identity, valuesFrom, declaredBy, policyOf}
 use Rattle.document_model.proofs.Laws.{values-same}
 use Rattle.document_model.proofs.Parts.{declared-by}
-use Rattle.document_records.specs.Slots.{slotBytes, originBytes, settledLimit, everywherePlace, enabledPlace, depthPlace, inheritedPlace, opaquePlace, ownLengthPlace, sandboxedPlace, abovePlace, ownTextPlace, settledPlace, depthIn, aboveBytes, ownLength, ownText, ownNumber, ownOrigin, originBy, originBytesOf, originNumber, isSandboxedIn, settledIn, documentIn, slotPolicy, Kept, GoodSlot}
+use Rattle.document_records.specs.Slots.{slotBytes, originBytes, settledLimit, everywherePlace, depthPlace, inheritedPlace, opaquePlace, ownLengthPlace, sandboxedPlace, abovePlace, ownTextPlace, settledPlace, depthIn, aboveBytes, ownLength, ownText, ownNumber, ownOrigin, originBy, originBytesOf, originNumber, isSandboxedIn, settledIn, documentIn, slotPolicy, Kept}
 use Rattle.document_records.proofs.Laws.{document-parts, document-policy}
-use Rattle.document_loads.specs.Slots.{markNumber, frontOf, decisionsOf, described, written, headerBytes, numbersOf, Fits, frontPut, PutsHeader, withDecisions, KeptOrigin, IsNewDocument, Written, Writes}
+use Rattle.document_loads.specs.Slots.{markNumber, frontOf, decisionsOf, described, written, headerBytes, numbersOf, Fits, frontPut, PutsHeader, withDecisions, IsNewDocument, Written, Writes}
 use Rattle.document_loads.specs.declared.NewDocument.{NewDocument}
 use Rattle.document_loads.proofs.Putting.{header-is}
 
 abbrev five : Identity → ℕ → List ℕ
 five i m = length (i .above) ∷ m ∷ originNumber (i .origin) ∷ length (originBytesOf (i .origin)) ∷ markNumber (i .sandboxed) ∷ []
 
+-- an origin's text and number have room in a slot, and are read back
+pub record OriginFits (o : Origin) : Type 0 where
+  pub text : length (originBytesOf o) ≤ originBytes
+  pub reads : originBy (originOf (originBytesOf o)) (originNumber o) ≡ o
+  pub number : originNumber o < 2 ^ 32
+
 -- what of a document has room in a slot and is read back
 pub record Fitting (i : Identity) (m : ℕ) : Type 0 where
   pub depth : length (i .above) ≤ documentLimit
   pub listed : numbersIn (numberBytes (i .above)) ≡ i .above
-  pub text : length (originBytesOf (i .origin)) ≤ originBytes
-  pub reads : originBy (originOf (originBytesOf (i .origin))) (originNumber (i .origin)) ≡ i .origin
-  pub number : originNumber (i .origin) < 2 ^ 32
+  pub origin : OriginFits (i .origin)
   pub bits : m < 2 ^ 32
 
 mark-small : (b : Bool) → markNumber b < 2 ^ 32
@@ -94,10 +97,10 @@ module _ (slot : List ℕ) (i : Identity) (m : ℕ) (h : Text) (long : slotBytes
   inherited-is = number-is 1 (omega arith) (f .bits)
 
   number-own : ownNumber (described slot i m h) ≡ originNumber (i .origin)
-  number-own = number-is 2 (omega arith) (f .number)
+  number-own = number-is 2 (omega arith) (f .origin .number)
 
   length-own : ownLength (described slot i m h) ≡ length (originBytesOf (i .origin))
-  length-own = let t = f .text in number-is 3 (omega arith) (omega arith)
+  length-own = let t = f .origin .text in number-is 3 (omega arith) (omega arith)
 
   mark-is : numberAt (described slot i m h) sandboxedPlace ≡ markNumber (i .sandboxed)
   mark-is = number-is 4 (omega arith) (mark-small (i .sandboxed))
@@ -118,14 +121,14 @@ module _ (slot : List ℕ) (i : Identity) (m : ℕ) (h : Text) (long : slotBytes
 
   text-is : ownText (described slot i m h) ≡ originBytesOf (i .origin)
   text-is =
-      let t = f .text in
+      let t = f .origin .text in
       let l = fronted-long in
       ap (λ (k : ℕ). bytesAt (described slot i m h) ownTextPlace k) length-own
       ∙ (part-below (settledBytes h) (named slot i m) settledPlace ownTextPlace (length (originBytesOf (i .origin))) (omega arith)
       ∙ part-here (originBytesOf (i .origin)) (fronted slot i m) ownTextPlace (omega arith))
 
   origin-is : ownOrigin (described slot i m h) ≡ i .origin
-  origin-is = rw (text-is, number-own) (f .reads)
+  origin-is = rw (text-is, number-own) (f .origin .reads)
 
   settled-is : (n : ℕ) → declaredIn (settledIn (described slot i m h)) n ≡ declares h n
   settled-is n =
@@ -180,12 +183,6 @@ module _ (slot : List ℕ) (i : Identity) (m : ℕ) (h : Text) (long : slotBytes
   after-long : length t ≡ length slot
   after-long = ap length is ∙ (put-long (described slot i m h) everywherePlace (numberBytes (decisionsOf (slotPolicy (described slot i m h)))) ∙ described-long slot i m h long f short)
 
-  p : Policy
-  p = slotPolicy (described slot i m h)
-
-  every : ℕ
-  every = maskOf (λ n. questionIn (slotPolicy (described slot i m h)) n fresh)
-
   past : (n : ℕ) → documentIn n t ≡ documentIn n (described slot i m h)
   past n = document-past (described slot i m h) t (maskOf (λ k. questionIn (slotPolicy (described slot i m h)) k fresh)) (enabledMask (slotPolicy (described slot i m h))) is n
 
@@ -210,10 +207,10 @@ module _ (slot : List ℕ) (i : Identity) (m : ℕ) (h : Text) (long : slotBytes
       let above : aboveBytes t ≡ numberBytes (i .above) = above-past d t x y is ∙ above-is slot i m h long f short in
       let text : ownText t ≡ originBytesOf (i .origin) = text-past d t x y is ∙ text-is slot i m h long f short in
       let number : ownNumber t ≡ originNumber (i .origin) = number-past d t x y is opaquePlace (omega arith) ∙ number-own slot i m h long f short in
-      let origin : ownOrigin t ≡ i .origin = rw (text, number) (f .reads) in
+      let origin : ownOrigin t ≡ i .origin = rw (text, number) (f .origin .reads) in
       let l = after-long in
       let fd = f .depth in
-      let ft = f .text in
+      let ft = f .origin .text in
       record {
         is = is ∙ ap (λ (q : Policy). withText (described slot i m h) everywherePlace (numberBytes (decisionsOf q))) policy-is;
         long = after-long;
@@ -235,12 +232,6 @@ module _ (slot : List ℕ) (i : Identity) (m : ℕ) (h : Text) (long : slotBytes
 module _ (slot s1 s2 h : List ℕ) (d : NewDocument) (r : Bool) (long : slotBytes ≤ length slot) (fits : Fits d) (e1 : s1 ≡ frontPut slot d) (e2 : PutsHeader s1 h s2 r) where
   one-long : length (withText slot depthPlace (numberBytes (numbersOf d))) ≡ length slot
   one-long = put-long slot depthPlace (numberBytes (numbersOf d))
-
-  taken-above : length (take (4 * d .depth) (d .above)) ≡ 4 * d .depth
-  taken-above = let a = fits .depth in let b = fits .above-room in length-take-le (4 * d .depth) (d .above) (omega arith)
-
-  taken-text : length (take (d .length) (d .text)) ≡ d .length
-  taken-text = let a = fits .text in let b = fits .text-room in length-take-le (d .length) (d .text) (omega arith)
 
   raw-number : (k : ℕ) → k < 5 → getD (numbersOf d) k 0 < 2 ^ 32 → numberAt s2 (depthPlace + 4 * k) ≡ getD (numbersOf d) k 0
   raw-number k lt small =
@@ -284,9 +275,12 @@ module _ (slot s1 s2 h : List ℕ) (d : NewDocument) (r : Bool) (long : slotByte
         record {
           depth = omega (arith, n .depth);
           listed = n .listed;
-          text = omega (arith, n .text);
-          reads = rw (← (n .origin .bytes), ← (n .origin .number)) (n .origin .reads);
-          number = rw (← (n .origin .number)) (n .small);
+          origin =
+              record {
+                text = omega (arith, n .text);
+                reads = rw (← (n .origin .bytes), ← (n .origin .number)) (n .origin .reads);
+                number = rw (← (n .origin .number)) (n .small);
+              };
           bits = n .bits;
         }
 

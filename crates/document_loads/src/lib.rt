@@ -105,7 +105,7 @@ fn arrive(
 }
 
 fn small(x: usize) -> u32
-    requires { ⌜ x ≤ 65535 ⌝ }
+    requires { ⌜ x ≤ originBytes ⌝ }
     ensures { λ r. ⌜ r ≡ x ⌝ }
 {
     x as u32

@@ -1,4 +1,4 @@
--- The laws of the model that the crates above cite: these, those that the `pub use` lines pass on, `RowByRow` and `Parts`. Assumes nothing.
+-- The laws of the model that the crates above cite: these, those that the `pub use` lines pass on, `RowByRow`, `Parts`, `Depths`, and the claims (`Claims`). Assumes nothing.
 
 -- the induction over two runs
 pub use Rattle.document_model.proofs.TwoRuns.{Follow, two-runs, two-tables, left-append, answers-append, answers-end, answers-next, left-end, left-next}

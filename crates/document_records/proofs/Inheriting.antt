@@ -3,20 +3,18 @@ use mathlib.Core.Path.{_≡_, refl, ap, _∙_, sym}
 use Prim.Native.Nat.{ℕ, _+_, _≤_, _<_}
 use mathlib.Core.List.{List}
 use mathlib.Core.Bool.{Bool, true, false}
-use mathlib.Core.Option.{Option, some, none}
+use mathlib.Core.Option.{Option}
 use native.Mathlib.Omega.{arith}
 use lib.ListN.{length, getD, set}
 use lib.Seq.{getD-set-same, getD-set-other}
 use lib.Dec.{eqb}
 use borrow.Author.Tests.{eqb-true, eqb-false}
-use Rattle.ascii.proofs.Clash.{clash}
 use Rattle.features.specs.Features.{featureCount, defaultOf}
 use Rattle.features.specs.Answers.{defaultIn}
 use Rattle.features.specs.declared.DefaultOf.{DefaultOf}
 use Rattle.origins.specs.Origins.{Origin}
-use Rattle.origins.specs.Origins.Origin.{tuple, fresh}
 use Rattle.origins.specs.Matching.{sameOrigin}
-use Rattle.origins.specs.Answers.{originIn, tupleIn}
+use Rattle.origins.specs.Answers.{originIn}
 use Rattle.origins.specs.declared.TupleRange.{TupleRange}
 use Rattle.origins.specs.declared.OriginRange.the-variants as range
 use Rattle.origins.proofs.Laws.{fresh-left}
@@ -30,34 +28,31 @@ use Rattle.containers.specs.declared.ContainerPolicy.{ContainerPolicy}
 use Rattle.containers.specs.declared.ContainerPolicy.the-variants as policy
 use Rattle.containers.specs.declared.DeclaredOrigin.{DeclaredOrigin}
 use Rattle.containers.specs.declared.DeclaredOrigin.the-variants as declared
-use Rattle.decisions.specs.Decisions.{Decision, inheritedBy}
+use Rattle.decisions.specs.Decisions.{inheritedBy}
 use Rattle.decisions.specs.Masks.{maskOf}
-use Rattle.decisions.specs.Policies.{Policy, Frame, inheritedFramed, valueIn, inheritedIn}
+use Rattle.decisions.specs.Policies.{Policy, valueIn, inheritedIn}
 use Rattle.decisions.specs.Answers.{decisionIn, decisionsIn}
 use Rattle.decisions.specs.declared.Decision.{Decision as Answer}
 use Rattle.decisions.specs.declared.Decision.the-variants as answer
 use Rattle.decisions.proofs.Laws.{inherited-says, inherited-parts, mask-places}
 use Rattle.document_records.specs.Slots.{ownText, ownOrigin, slotPolicy}
-use Rattle.document_records.specs.Records.{IsArriving, IsDeclaredOrigin, inheritedTold, Inherits, IsInherited}
+use Rattle.document_records.specs.Records.{IsArriving, declaredIs, inheritedTold, Inherits, IsInherited}
 use Rattle.document_records.specs.declared.Arriving.{Arriving}
 use Rattle.document_records.proofs.Laws.{slot-own}
 
 -- the declared origin, case by case
 module _ (c : Origin) (d : DeclaredOrigin) (src : List ℕ) (o : Origin) where
-  named : (x : Origin) (r : Bool) → declaredIn src c d ≡ some x → r ≡ sameOrigin x o → IsDeclaredOrigin c d src o r
-  named x r e h = record { says = λ y f. (let q : x ≡ y = cc in rw (← q) h); none-declared = λ f. clash cc }
+  pub declared-fresh : d ≡ declared.Fresh → false ≡ declaredIs (declaredIn src c d) o
+  declared-fresh k = rw k (sym (fresh-left o))
 
-  pub declared-fresh : d ≡ declared.Fresh → IsDeclaredOrigin c d src o false
-  declared-fresh k = named fresh false (ap (declaredIn src c) k) (sym (fresh-left o))
+  pub declared-container : (r : Bool) → d ≡ declared.Container → r ≡ sameOrigin c o → r ≡ declaredIs (declaredIn src c d) o
+  declared-container r k h = rw k h
 
-  pub declared-container : (r : Bool) → d ≡ declared.Container → r ≡ sameOrigin c o → IsDeclaredOrigin c d src o r
-  declared-container r k h = named c r (ap (declaredIn src c) k) h
+  pub declared-src : (q : TupleRange) (r : Bool) → d ≡ declared.Src q → r ≡ sameOrigin (originIn src (range.Tuple q)) o → r ≡ declaredIs (declaredIn src c d) o
+  declared-src q r k h = rw k h
 
-  pub declared-src : (q : TupleRange) (r : Bool) → d ≡ declared.Src q → r ≡ sameOrigin (originIn src (range.Tuple q)) o → IsDeclaredOrigin c d src o r
-  declared-src q r k h = named (tuple (tupleIn src q)) r (ap (declaredIn src c) k) h
-
-  pub declared-none : d ≡ declared.NotAnOrigin → IsDeclaredOrigin c d src o false
-  declared-none k = record { says = λ y f. (let g : declaredIn src c d ≡ none = ap (declaredIn src c) k in clash cc); none-declared = λ f. refl }
+  pub declared-none : d ≡ declared.NotAnOrigin → false ≡ declaredIs (declaredIn src c d) o
+  declared-none k = rw k
 
 pub ruleset declareds = (declared-fresh, declared-container, declared-src, declared-none)
 

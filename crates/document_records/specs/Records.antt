@@ -19,8 +19,6 @@ use Rattle.decisions.specs.Decisions.{Decision, inheritedBy}
 use Rattle.decisions.specs.Masks.{maskOf}
 use Rattle.decisions.specs.Policies.{Policy, Frame, inheritedFramed, valueIn, inheritedIn}
 use Rattle.containers.specs.Policies.{attributePolicy}
-use Rattle.containers.specs.Answers.{declaredIn as declaredOriginIn}
-use Rattle.containers.specs.declared.DeclaredOrigin.{DeclaredOrigin}
 use Rattle.document_records.specs.Slots.{ownText, ownNumber, ownOrigin, slotPolicy}
 use Rattle.document_records.specs.declared.Arriving.{Arriving}
 
@@ -46,10 +44,10 @@ pub record IsArriving (slot : List ℕ) (o : Origin) (a : Arriving) : Type 0 whe
   pub itself : a .itself ≡ sameOrigin (ownOrigin slot) (ownOrigin slot)
   pub same : a .same ≡ sameOrigin (ownOrigin slot) o
 
--- whether an origin is the one that a frame's declared origin names, beside the container's origin and src
-pub record IsDeclaredOrigin (container : Origin) (declared : DeclaredOrigin) (src : List ℕ) (o : Origin) (r : Bool) : Type 0 where
-  pub says : (x : Origin) → declaredOriginIn src container declared ≡ some x → r ≡ sameOrigin x o
-  pub none-declared : declaredOriginIn src container declared ≡ none → r ≡ false
+-- whether an origin is the declared one, where there is one
+abbrev pub declaredIs : Option Origin → Origin → Bool
+declaredIs (some x) o = sameOrigin x o
+declaredIs none o = false
 
 -- *Inherited* of a feature, told whether the arriving origin is the declared one
 abbrev pub inheritedTold : Policy → ℕ → Option Allowlist → Bool → Origin → Decision

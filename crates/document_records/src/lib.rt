@@ -4,14 +4,14 @@ ghost use Rattle.origins.specs.Origins.Origin.{fresh};
 ghost use Rattle.origins.specs.Matching.{sameOrigin};
 ghost use Rattle.origins.specs.Answers.{originIn};
 ghost use Rattle.containers.specs.Sandboxes.{sandboxWords};
-ghost use Rattle.containers.specs.Answers.{policyIn};
+ghost use Rattle.containers.specs.Answers.{policyIn, declaredIn};
 ghost use Rattle.decisions.specs.Answers.{decisionIn};
 ghost use Rattle.decisions.specs.Masks.{maskOf};
 ghost use Rattle.decisions.specs.Policies.{valueIn, questionIn, enabledMask};
 ghost use Rattle.document_model.specs.Model.{elem};
 ghost use Rattle.lent_bytes.specs.Numbers.{numbersIn};
 ghost use Rattle.document_records.specs.Slots.{aboveBytes, ownText, ownOrigin, isSandboxedIn, slotPolicy, Kept, GoodSlot};
-ghost use Rattle.document_records.specs.Records.{DeclaredAnswers, IsOwnRange, IsArriving, IsDeclaredOrigin, Inherits, IsInherited};
+ghost use Rattle.document_records.specs.Records.{DeclaredAnswers, IsOwnRange, IsArriving, declaredIs, Inherits, IsInherited};
 use allowlists::Admission;
 use containers::ContainerPolicy;
 use containers::DeclaredOrigin;
@@ -213,7 +213,7 @@ pub fn is_declared(
     o: OriginRange,
 ) -> bool
     requires { ⌜ Kept (now slot) ⌝ }
-    ensures { λ r. ⌜ IsDeclaredOrigin (ownOrigin (now (slot .entry))) declared (now (src .entry)) (originIn (now (t .entry)) o) r ⌝ }
+    ensures { λ r. ⌜ r ≡ declaredIs (declaredIn (now (src .entry)) (ownOrigin (now (slot .entry))) declared) (originIn (now (t .entry)) o) ⌝ }
 {
     match declared {
         DeclaredOrigin::Fresh => false,

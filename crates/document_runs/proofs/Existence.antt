@@ -1,30 +1,32 @@
--- Every list of calls has a run of the code over lent bytes: what `AnsweredByCode` asks is met. The bytes after a step are those that the calls' contracts say. Assumes nothing.
+-- Every list of calls has a run of the code over lent bytes: what `AnsweredByCode` asks is met. The bytes after a step are those that the calls' contracts say, and those past the table stay. Assumes nothing.
 use mathlib.Core.Path.{_≡_, refl, ap, sym, subst, _∙_}
-use Prim.Native.Nat.{ℕ, zero, suc, _+_, _≤_, _<_, _^_}
+use Prim.Native.Nat.{ℕ, suc, _+_, _≤_, _<_, _^_}
 use native.Mathlib.Omega.{arith}
-use native.Mathlib.Numerals.{add-one}
-use mathlib.Core.List.{List, [], _∷_, _++_}
-use lib.ListN.{length, replicate, length-replicate, length-take, length-drop}
+use mathlib.Core.List.{List, [], _∷_}
+use mathlib.Core.Bool.{Bool, true, false}
+use lib.Dec.{ltb}
+use lib.ListN.{length, drop, replicate, length-replicate, length-take, length-drop}
+use borrow.Author.Tests.{ltb-false}
+use Rattle.ascii.specs.Bytes.{pick}
 use Rattle.ascii.proofs.Clash.{clash}
 use Rattle.limits.specs.Limits.{textBytes, documentLimit, lastSerial}
-use Rattle.limits.specs.declared.Refusal.{Refusal}
 use Rattle.origins.specs.Origins.{originOf}
 use Rattle.containers.specs.Attributes.{Attributes}
 use Rattle.decisions.specs.Decisions.{Decision, inheritedTop}
 use Rattle.decisions.specs.Decisions.Decision.{disabled, enabled}
 use Rattle.decisions.specs.Masks.{maskOf}
 use Rattle.decisions.proofs.Laws.{mask-below}
-use Rattle.document_model.specs.Model.{Text, Identity, Document as ModelDocument, Table as ModelTable, declaredBy, remaining, removedCount, Call, topLoad, framedLoad, unload, question, enabledFeatures, listing, forecastOf, Answer, loaded, removed, decision, features, serials, Outcome, refuse, accept, topIdentity, framedIdentity, outcome, answerTo, tableLeft, tableAfter, answers}
-use Rattle.document_model.proofs.Laws.{table-one, in-values, Asked, asked-not, asked-is, Told, told-not, told-is, Listed, listed-not, listed-is, Removed, removed-not, removed-is, Pushed, pushed-not, pushed-is, asked-outcome, told-enabled, told-forecast, listed-outcome, removed-outcome, top-outcome, framed-outcome}
+use Rattle.document_model.specs.Model.{Text, Identity, Document as ModelDocument, Table as ModelTable, Call, topLoad, framedLoad, unload, question, enabledFeatures, listing, forecastOf, Answer, decision, features, serials, Outcome, refuse, accept, topIdentity, framedIdentity, outcome, answerTo, tableAfter, answers}
+use Rattle.document_model.proofs.Laws.{in-values, Asked, asked-not, asked-is, Told, told-not, told-is, Listed, listed-not, listed-is, Removed, removed-not, removed-is, Pushed, pushed-not, pushed-is, asked-outcome, told-enabled, told-forecast, listed-outcome, removed-outcome, top-outcome, framed-outcome}
 use Rattle.document_model.proofs.Parts.{top-identity, framed-identity}
 use Rattle.document_model.proofs.Tables.{In}
 use Rattle.document_model.proofs.Depths.{above-fewer}
-use Rattle.document_model.proofs.RowByRow.{answer-of, table-of}
-use Rattle.document_records.specs.Slots.{slotBytes, documentIn}
+use Rattle.document_model.proofs.RowByRow.{answer-of}
+use Rattle.document_records.specs.Slots.{slotBytes}
 use Rattle.document_table.specs.Layout.{tableBytes, countIn, lastIn, serialAt, slotNumber, slotOf, docAt, docsIn, view, newRun, loadedRun}
-use Rattle.document_table.specs.Tables.{Sound}
-use Rattle.document_table.proofs.Laws.{docs-length, docs-are, doc-serial, loaded-sound, loaded-docs, loaded-last}
-use Rattle.document_loads.specs.Slots.{described, withDecisions, written, Written}
+use Rattle.document_table.proofs.Laws.{docs-length, docs-are, doc-serial, loaded-past, new-past}
+use Rattle.document_table.proofs.Sweeping.{removed-past}
+use Rattle.document_loads.specs.Slots.{described, withDecisions, Written}
 use Rattle.document_loads.proofs.Written.{Fitting, is-written}
 use Rattle.documents.specs.declared.QuestionAnswer.{QuestionAnswer}
 use Rattle.documents.specs.declared.QuestionAnswer.the-variants as asked
@@ -36,16 +38,17 @@ use Rattle.documents.specs.declared.UnloadAnswer.{UnloadAnswer}
 use Rattle.documents.specs.declared.UnloadAnswer.the-variants as unloading
 use Rattle.documents.specs.declared.ListingAnswer.{ListingAnswer}
 use Rattle.documents.specs.declared.ListingAnswer.the-variants as listed
-use Rattle.documents.specs.Bytes.{noDocument, withNewest, changed}
-use Rattle.documents.specs.Answers.{Valid, questionIn, featuresIn, Loads, Unloads, Lists}
-use Rattle.documents.specs.Steps.{HasRoom, Placed}
+use Rattle.documents.specs.Bytes.{withNewest, changed, bytesLeft}
+use Rattle.documents.specs.Answers.{Valid, questionIn, featuresIn, bytesOfNew, Loads, Unloads, Lists}
+use Rattle.documents.specs.Steps.{HasRoom}
 use Rattle.document_runs.specs.Runs.{Step, load-top, load-framed, unloads, asks, enables, lists, forecasts, Steps, no-more, then, Run, RunOf, AnsweredByCode}
-use Rattle.documents.proofs.Answering.{bytes-of, new-ready}
-use Rattle.documents.proofs.Loads.{refused-load, newest-last}
+use Rattle.documents.proofs.Answering.{new-ready, kept-unload, removed-unload}
+use Rattle.documents.proofs.Loads.{refused-load, pushed-load}
+use Rattle.documents.proofs.Placing.{slot-placed}
 use Rattle.settling.proofs.Laws.{settled-most}
 use Rattle.document_runs.proofs.Removals.{removal}
 use Rattle.document_runs.proofs.Keeping.{Fit, top-fit, framed-fit, all-fit}
-use Rattle.document_runs.proofs.Runs.{run-answers, step-valid}
+use Rattle.document_runs.proofs.Runs.{run-answers, step-bytes, step-valid}
 
 -- ---- what holds of the documents of a table that calls left
 
@@ -66,7 +69,7 @@ module _ (t : List ℕ) (v : Valid t) where
   serials-small j h = let s = fit (docAt t j) (in-docs t j h) .serial in let e = doc-serial t j in omega arith
 
 fitting : (i : Identity) (m : ℕ) → Fit i → length (i .above) ≤ documentLimit → m < 2 ^ 32 → Fitting i m
-fitting i m f deep small = record { depth = deep; listed = f .listed; text = f .origin .text; reads = f .origin .reads; number = f .origin .number; bits = small }
+fitting i m f deep small = record { depth = deep; listed = f .listed; origin = f .origin; bits = small }
 
 mask-small : (p : ℕ → Decision) → maskOf p < 2 ^ 32
 mask-small p = let b = mask-below p in omega arith
@@ -87,11 +90,13 @@ framed-placeable c a o n p left fit deep =
 
 -- ---- one call
 
+-- a step of a call; it writes nothing past the table
 pub record Next (c : Call) (t : List ℕ) : Type 0 where
   pub answer : Answer
   pub run : List ℕ
   pub left : List ℕ
   pub step : Step c t answer run left
+  pub past : drop tableBytes left ≡ drop tableBytes t
 
 decisionAs : Decision → QuestionAnswer
 decisionAs disabled = asked.Disabled
@@ -127,36 +132,22 @@ listed-next : (c : Call) (t : List ℕ) (before : List ℕ) (x : Outcome) → ou
 listed-next c t before x e (listed-not n) = record { answer = listed.Refused n; after = before; is = record { answer = sym (answer-of c (view t) (refuse n) e); refusal = λ m q. refl } }
 listed-next c t before x e (listed-is n run u) = record { answer = listed.Count n; after = run; is = record { answer = sym (answer-of c (view t) (accept (serials n run) u) e); refusal = λ m q. clash cc } }
 
--- the bytes that a call leaves are those of a table that calls left
-valid-next : (c : Call) (t u : List ℕ) → Valid t → Sound u → view u ≡ tableLeft c (view t) → Valid u
-valid-next c t u v s e = record { sound = s; calls = v .calls ++ (c ∷ []); left = e ∙ (ap (tableLeft c) (v .left) ∙ sym (table-one (v .calls) c)) }
-
 -- an unload
 record Unloaded (c : Call) (t : List ℕ) : Type 0 where
   answer : UnloadAnswer
   after : List ℕ
   is : Unloads c t after answer
+  past : drop tableBytes after ≡ drop tableBytes t
 
 removed-next : (s : ℕ) (t : List ℕ) → Valid t → (x : Outcome) → outcome (unload s) (view t) ≡ x → Removed s (view t) x → Unloaded (unload s) t
-removed-next s t v x e (removed-not n) =
-    record { answer = unloading.Refused n; after = t; is = record { valid = v; answer = sym (answer-of (unload s) (view t) (refuse n) e); table = sym (table-of (unload s) (view t) (refuse n) e); bytes = sym (bytes-of (unload s) t (refuse n) e) } }
+removed-next s t v x e (removed-not n) = record { answer = unloading.Refused n; after = t; is = kept-unload t s n v e; past = refl }
 removed-next s t v x e removed-is =
-    let after : ModelTable = record { docs = remaining s (docsIn t); next = suc (lastIn t) } in
     let gone = removal t s (serials-small t v) (v .sound) in
-    let docs : docsIn (gone .after) ≡ remaining s (docsIn t) = gone .is .docs in
-    let next : suc (lastIn (gone .after)) ≡ suc (lastIn t) = ap suc (gone .is .last) in
-    let seen : view (gone .after) ≡ after = cc in
-    let left : view (gone .after) ≡ tableLeft (unload s) (view t) = seen ∙ sym (table-of (unload s) (view t) (accept (removed (removedCount s (docsIn t))) after) e) in
     record {
-      answer = unloading.Removed (removedCount s (docsIn t));
+      answer = unloading.Removed (gone .many);
       after = gone .after;
-      is =
-          record {
-            valid = valid-next (unload s) t (gone .after) v (gone .is .sound) left;
-            answer = sym (answer-of (unload s) (view t) (accept (removed (removedCount s (docsIn t))) after) e);
-            table = left;
-            bytes = gone .is .is ∙ sym (bytes-of (unload s) t (accept (removed (removedCount s (docsIn t))) after) e);
-          };
+      is = removed-unload t (gone .after) s (gone .many) v e (gone .is);
+      past = ap (drop tableBytes) (gone .is .is) ∙ removed-past s t (v .sound);
     }
 
 -- a document written into the first free slot
@@ -172,60 +163,48 @@ free-long t has =
     let k = has .sound .slots (countIn t) (has .room) in
     rw (length-take, length-drop) (omega arith)
 
-is-placed : (t : List ℕ) (i : Identity) (m : ℕ) (h : Text) → HasRoom t → Placeable i m → length h ≤ textBytes → i .serial ≡ suc (lastIn t) → Placed t i m h (loadedRun t (loadedSlot t i m h))
-is-placed t i m h has f short own =
-    let l = free-long t has in
-    let w : Written (freeSlot t) i m h (loadedSlot t i m h) = is-written (freeSlot t) i m h (omega arith) (f .0) (let s = settled-most h in omega arith) (loadedSlot t i m h) refl (f .1) in
-    let full : length (loadedSlot t i m h) ≡ slotBytes = w .long ∙ l in
-    record {
-      is = ap (loadedRun t) (w .is);
-      sound = loaded-sound t (loadedSlot t i m h) (has .sound) full (has .room) (has .left) (w .good);
-      docs = loaded-docs t (loadedSlot t i m h) (has .sound) full (has .room) (has .left) ∙ ap (λ (x : ModelDocument). docsIn t ++ (x ∷ [])) (ap (λ (j : ℕ). documentIn j (loadedSlot t i m h)) (sym own) ∙ w .says);
-      last = loaded-last t (loadedSlot t i m h) (has .sound) full (has .room) (has .left);
-    }
+module _ (t : List ℕ) (i : Identity) (m : ℕ) (h : Text) (has : HasRoom t) (f : Placeable i m) (short : length h ≤ textBytes) where
+  -- it is written, and fills the slot
+  slot-written : Written (freeSlot t) i m h (loadedSlot t i m h)
+  slot-written = let l = free-long t has in is-written (freeSlot t) i m h (omega arith) (f .0) (let s = settled-most h in omega arith) (loadedSlot t i m h) refl (f .1)
 
+  slot-full : length (loadedSlot t i m h) ≡ slotBytes
+  slot-full = slot-written .long ∙ free-long t has
+
+-- a load
 record LoadedNext (c : Call) (t : List ℕ) : Type 0 where
   answer : LoadAnswer
   after : List ℕ
   is : Loads c t after answer
+  past : drop tableBytes after ≡ drop tableBytes t
 
 pushed-next : (c : Call) (t : List ℕ) (h : Text) → Valid t → ((x : ModelTable) → changed c x t ≡ withNewest t x h) → (x : Outcome) → outcome c (view t) ≡ x → Pushed Placeable h (view t) x → LoadedNext c t
-pushed-next c t h v changes x e (pushed-not n) = record { answer = loading.Refused n; after = t; is = refused-load c t n v e }
+pushed-next c t h v changes x e (pushed-not n) = record { answer = loading.Refused n; after = t; is = refused-load c t n v e; past = refl }
 pushed-next c t h v changes x e (pushed-is m i b f own short room spent) =
-    let new : ModelDocument = record { identity = i; inherited = b; declared = declaredBy h } in
-    let after : ModelTable = record { docs = docsIn t ++ (record { identity = i; inherited = b; declared = declaredBy h } ∷ []); next = suc (suc (lastIn t)) } in
     let count : countIn t < documentLimit = omega (arith, docs-length t) in
     let last : lastIn t < lastSerial = omega arith in
     let has : HasRoom t = record { sound = v .sound; room = count; left = last } in
-    let p : Placed t i b h (loadedRun t (loadedSlot t i b h)) = is-placed t i b h has f short own in
-    let docs : docsIn (loadedRun t (loadedSlot t i b h)) ≡ docsIn t ++ (record { identity = i; inherited = b; declared = declaredBy h } ∷ []) = p .docs in
-    let next : suc (lastIn (loadedRun t (loadedSlot t i b h))) ≡ suc (suc (lastIn t)) = ap suc (p .last ∙ add-one (lastIn t)) in
-    let seen : view (loadedRun t (loadedSlot t i b h)) ≡ after = cc in
-    let left : view (loadedRun t (loadedSlot t i b h)) ≡ tableLeft c (view t) = seen ∙ sym (table-of c (view t) (accept (loaded (suc (lastIn t)) m) after) e) in
+    let full = slot-full t i b h has f short in
     record {
       answer = loading.Loaded (record { serial = suc (lastIn t); malformed = m });
       after = loadedRun t (loadedSlot t i b h);
-      is =
-          record {
-            valid = valid-next c t (loadedRun t (loadedSlot t i b h)) v (p .sound) left;
-            answer = sym (answer-of c (view t) (accept (loaded (suc (lastIn t)) m) after) e);
-            table = left;
-            bytes =
-                p .is
-                ∙ (ap (λ (y : ModelDocument). loadedRun t (written (slotOf t (slotNumber t (countIn t))) y h)) (sym (newest-last (docsIn t) noDocument new))
-                ∙ (sym (changes after) ∙ sym (bytes-of c t (accept (loaded (suc (lastIn t)) m) after) e)));
-          };
+      is = pushed-load c t (loadedRun t (loadedSlot t i b h)) h m m (suc (lastIn t)) i b v e refl refl (slot-placed t (loadedSlot t i b h) i b h has full (slot-written t i b h has f short) own) changes;
+      past = loaded-past t (loadedSlot t i b h) (v .sound) full count last;
     }
 
 -- for every call, and every run of bytes that calls left, there is a step
 pub step-exists : (c : Call) (t : List ℕ) → Valid t → Next c t
-step-exists (topLoad h o) t v = let r = pushed-next (topLoad h o) t h v (λ x. refl) _ refl (top-outcome Placeable h (view t) o (λ room left. top-placeable o (suc (lastIn t)) left)) in record { answer = _; run = []; left = r .after; step = load-top (r .answer) (r .is) }
-step-exists (framedLoad c h o a) t v = let r = pushed-next (framedLoad c h o a) t h v (λ x. refl) _ refl (framed-outcome Placeable h (view t) c o a (λ d m room left. framed-placeable (d .identity) a o (suc (lastIn t)) _ left (fit t v d m) (shallow t v d m room))) in record { answer = _; run = []; left = r .after; step = load-framed (r .answer) (r .is) }
-step-exists (unload s) t v = let r = removed-next s t v _ refl (removed-outcome s (view t)) in record { answer = _; run = []; left = r .after; step = unloads (r .answer) (r .is) }
-step-exists (question s f o) t v = let r = asked-next (question s f o) t _ refl (asked-outcome s f o (view t)) in record { answer = _; run = []; left = t; step = asks (r .answer) (r .is) }
-step-exists (enabledFeatures s) t v = let r = told-next (enabledFeatures s) t _ refl (told-enabled s (view t)) in record { answer = _; run = []; left = t; step = enables (r .answer) (r .is) }
-step-exists (listing s run) t v = let r = listed-next (listing s run) t run _ refl (listed-outcome s run (view t)) in record { answer = _; run = _; left = t; step = lists (r .answer) (r .is) }
-step-exists (forecastOf c a) t v = let r = told-next (forecastOf c a) t _ refl (told-forecast c a (view t)) in record { answer = _; run = []; left = t; step = forecasts (r .answer) (r .is) }
+step-exists (topLoad h o) t v = let r = pushed-next (topLoad h o) t h v (λ x. refl) _ refl (top-outcome Placeable h (view t) o (λ room left. top-placeable o (suc (lastIn t)) left)) in record { answer = _; run = []; left = r .after; step = load-top (r .answer) (r .is); past = r .past }
+step-exists (framedLoad c h o a) t v = let r = pushed-next (framedLoad c h o a) t h v (λ x. refl) _ refl (framed-outcome Placeable h (view t) c o a (λ d m room left. framed-placeable (d .identity) a o (suc (lastIn t)) _ left (fit t v d m) (shallow t v d m room))) in record { answer = _; run = []; left = r .after; step = load-framed (r .answer) (r .is); past = r .past }
+step-exists (unload s) t v = let r = removed-next s t v _ refl (removed-outcome s (view t)) in record { answer = _; run = []; left = r .after; step = unloads (r .answer) (r .is); past = r .past }
+step-exists (question s f o) t v = let r = asked-next (question s f o) t _ refl (asked-outcome s f o (view t)) in record { answer = _; run = []; left = t; step = asks (r .answer) (r .is); past = refl }
+step-exists (enabledFeatures s) t v = let r = told-next (enabledFeatures s) t _ refl (told-enabled s (view t)) in record { answer = _; run = []; left = t; step = enables (r .answer) (r .is); past = refl }
+step-exists (listing s run) t v = let r = listed-next (listing s run) t run _ refl (listed-outcome s run (view t)) in record { answer = _; run = _; left = t; step = lists (r .answer) (r .is); past = refl }
+step-exists (forecastOf c a) t v = let r = told-next (forecastOf c a) t _ refl (told-forecast c a (view t)) in record { answer = _; run = []; left = t; step = forecasts (r .answer) (r .is); past = refl }
+
+-- no call writes past the table
+pub left-past : (c : Call) (run : List ℕ) → Valid run → drop tableBytes (bytesLeft c run) ≡ drop tableBytes run
+left-past c run v = let next = step-exists c run v in ap (drop tableBytes) (sym (step-bytes (next .step))) ∙ next .past
 
 -- ---- a list of calls
 
@@ -243,11 +222,25 @@ steps-exist (c ∷ cs) t v =
     record { said = _; runs = _; left = _; steps = then (one .step) (more .steps) }
 
 -- in any lent memory that is long enough, whatever its bytes are
-pub run-from : (lent : List ℕ) → tableBytes ≤ length lent → (cs : List Call) → RunOf cs
+pub run-from : (lent : List ℕ) → tableBytes ≤ length lent → (cs : List Call) → (r : RunOf cs) × (r .run .lent ≡ lent)
 run-from lent long cs =
     let new = new-ready lent (newRun lent) long refl in
     let w = steps-exist cs (newRun lent) (new .valid refl) in
-    record { said = w .said; run = record { lent = lent; start = newRun lent; new = new; runs = w .runs; left = w .left; steps = w .steps } }
+    (record { said = w .said; run = record { lent = lent; start = newRun lent; new = new; runs = w .runs; left = w .left; steps = w .steps } }, refl)
+
+-- nor does the call that makes a table, in too short a run either
+new-keeps : (run : List ℕ) (b : Bool) → ltb (length run) tableBytes ≡ b → drop tableBytes (bytesOfNew run) ≡ drop tableBytes run
+unfolding pick
+new-keeps run true e = rw e refl
+new-keeps run false e = rw e (new-past run (ltb-false (length run) tableBytes e))
+
+steps-past : {cs : List Call} {t u : List ℕ} {l : List Answer} {runs : List (List ℕ)} → Steps cs t l runs u → Valid t → drop tableBytes u ≡ drop tableBytes t
+steps-past no-more v = refl
+steps-past (then {c} {t = t} s ss) v = steps-past ss (step-valid s v) ∙ (ap (drop tableBytes) (step-bytes s) ∙ left-past c t v)
+
+-- a run writes nothing past the table
+pub run-past : {cs : List Call} {l : List Answer} (r : Run cs l) → drop tableBytes (r .left) ≡ drop tableBytes (r .lent)
+run-past r = steps-past (r .steps) (r .new .valid refl) ∙ (ap (drop tableBytes) (r .new .bytes) ∙ new-keeps (r .lent) _ refl)
 
 zeros : (n : ℕ) → List ℕ
 zeros n = replicate n 0
@@ -258,11 +251,11 @@ zeros-long n = omega (arith, length-replicate {A = ℕ} n 0)
 
 -- what the code answers: the answers of a run over the calls, which all runs have (`every-run`)
 pub codeAnswers : List Call → List Answer
-codeAnswers cs = run-from (zeros tableBytes) (zeros-long tableBytes) cs .said
+codeAnswers cs = run-from (zeros tableBytes) (zeros-long tableBytes) cs .0 .said
 
 pub answered-by-code : AnsweredByCode codeAnswers
 unfolding codeAnswers
-answered-by-code cs = run-from (zeros tableBytes) (zeros-long tableBytes) cs .run
+answered-by-code cs = run-from (zeros tableBytes) (zeros-long tableBytes) cs .0 .run
 
 -- of every run over them, in whatever memory
 pub every-run : (cs : List Call) (l : List Answer) → Run cs l → l ≡ codeAnswers cs

@@ -17,43 +17,40 @@ use Rattle.document_model.proofs.Laws.{table-is, history-induction}
 use Rattle.document_model.proofs.Parts.{top-identity, framed-identity, top-document, framed-document}
 use Rattle.document_model.proofs.Tables.{In, in-push, in-remaining}
 use Rattle.document_model.proofs.Effects.{Effect, nothing-else, top-loaded, frame-loaded, all-removed}
-use Rattle.document_records.specs.Slots.{originBytes, originBy, originBytesOf, originNumber}
+use Rattle.document_records.specs.Slots.{originBytes, originBy}
+use Rattle.document_loads.proofs.Written.{OriginFits}
 
--- an origin's text and number have room, and are read back
-pub record Keeps (o : Origin) : Type 0 where
-  pub text : length (originBytesOf o) ≤ originBytes
-  pub reads : originBy (originOf (originBytesOf o)) (originNumber o) ≡ o
-  pub number : originNumber o < 2 ^ 32
+-- an opaque origin, and whatever origin a load arrives at
+opaque-fits : (n : ℕ) → n < 2 ^ 32 → OriginFits (opaque n)
+opaque-fits n h = record { text = omega arith; reads = rw text-empty refl; number = h }
 
-opaque-keeps : (n : ℕ) → n < 2 ^ 32 → Keeps (opaque n)
-opaque-keeps n h = record { text = omega arith; reads = rw text-empty refl; number = h }
-
-arrives-keeps : (o : Text) (x : OriginSaid) (own : Origin) (n : ℕ) → originOf o ≡ x → n < 2 ^ 32 → Keeps own → Keeps (arrivesAt x own n)
-arrives-keeps o saysEmpty own n e h k = k
-arrives-keeps o saysNull own n e h k = opaque-keeps n h
-arrives-keeps o (saysTuple p) own n e h k =
+arrives-fits : (o : Text) (x : OriginSaid) (own : Origin) (n : ℕ) → originOf o ≡ x → n < 2 ^ 32 → OriginFits own → OriginFits (arrivesAt x own n)
+arrives-fits o saysEmpty own n e h k = k
+arrives-fits o saysNull own n e h k = opaque-fits n h
+arrives-fits o (saysTuple p) own n e h k =
     let t : o ≡ originText p = tuple-text o p e in
     let q : originOf (originText p) ≡ saysTuple p = ap originOf (sym t) ∙ e in
     let l : length o ≤ originBytes = tuple-length o p e in
     record { text = omega (arith, ap length t); reads = ap (λ (y : OriginSaid). originBy y 0) q; number = omega arith }
-arrives-keeps o noOrigin own n e h k = opaque-keeps n h
+arrives-fits o noOrigin own n e h k = opaque-fits n h
 
+-- what of a document has room in a slot but for how deep it is
 pub record Fit (i : Identity) : Type 0 where
   pub serial : i .serial < 2 ^ 32
   pub listed : numbersIn (numberBytes (i .above)) ≡ i .above
-  pub origin : Keeps (i .origin)
+  pub origin : OriginFits (i .origin)
 
 pub top-fit : (o : Text) (n : ℕ) → n < 2 ^ 32 → Fit (topIdentity (originOf o) n)
 top-fit o n h =
     rw (top-identity (originOf o) n)
-    (record { serial = h; listed = ap numbersIn bytes-none ∙ numbers-none; origin = arrives-keeps o (originOf o) (opaque n) n refl h (opaque-keeps n h) })
+    (record { serial = h; listed = ap numbersIn bytes-none ∙ numbers-none; origin = arrives-fits o (originOf o) (opaque n) n refl h (opaque-fits n h) })
 
 pub framed-fit : (c : Identity) (a : Attributes) (o : Text) (n : ℕ) → n < 2 ^ 32 → Fit c → Fit (framedIdentity c a (originOf o) n)
 framed-fit c a o n h f =
     let listed : numbersIn (numberBytes (c .serial ∷ c .above)) ≡ c .serial ∷ c .above =
     ap numbersIn (bytes-more (c .serial) (c .above)) ∙ (numbers-more (c .serial) (numberBytes (c .above)) (f .serial) ∙ ap (λ (l : List ℕ). c .serial ∷ l) (f .listed)) in
     rw (framed-identity c a (originOf o) n)
-    (record { serial = h; listed = listed; origin = arrives-keeps o (originOf o) (c .origin) n refl h (f .origin) })
+    (record { serial = h; listed = listed; origin = arrives-fits o (originOf o) (c .origin) n refl h (f .origin) })
 
 abbrev FitDocument : Document → Type 0
 FitDocument d = Fit (d .identity)

@@ -1,10 +1,10 @@
--- A run of the code over a list of calls has the model's answers, lent runs and table. Assumes nothing.
+-- A run of the code over a list of calls has the model's answers, lent runs and table, and the bytes of the definition. Assumes nothing.
 use mathlib.Core.Path.{_≡_, refl, ap, sym, subst, _∙_, fun-ext}
 use Prim.Native.Nat.{ℕ}
 use mathlib.Core.List.{List, [], _∷_, _++_}
 use Rattle.ascii.proofs.Clash.{clash}
 use Rattle.document_model.specs.Runs.{leftBy, answersBy}
-use Rattle.document_model.specs.Model.{Call, question, enabledFeatures, listing, forecastOf, Answer, runAfter, answerTo, tableLeft, tableAfter, answers}
+use Rattle.document_model.specs.Model.{Table as ModelTable, Call, question, enabledFeatures, listing, forecastOf, Answer, Outcome, refuse, accept, outcome, runAfter, answerTo, tableLeft, tableAfter, answers}
 use Rattle.document_model.specs.Answering.{theModel, byAnswers}
 use Rattle.document_model.proofs.Laws.{by-answers, asked-keeps, answers-end, answers-next, left-end, left-next, answers-are, table-is}
 use Rattle.document_table.specs.Layout.{view}
@@ -18,7 +18,8 @@ use Rattle.documents.specs.declared.UnloadAnswer.{UnloadAnswer}
 use Rattle.documents.specs.declared.UnloadAnswer.the-variants as unload
 use Rattle.documents.specs.declared.ListingAnswer.{ListingAnswer}
 use Rattle.documents.specs.declared.ListingAnswer.the-variants as listed
-use Rattle.documents.specs.Answers.{Valid, questionIn, featuresIn, loadIn, unloadIn, listingIn, Lists}
+use Rattle.documents.specs.Bytes.{changed, bytesIn, bytesLeft}
+use Rattle.documents.specs.Answers.{Valid, questionIn, featuresIn, loadIn, unloadIn, listingIn, bytesOfNew, Lists}
 use Rattle.document_runs.specs.Runs.{Step, load-top, load-framed, unloads, asks, enables, lists, forecasts, Steps, no-more, then, Run, AnsweredByCode, lentRun, runsAfter}
 
 -- one call
@@ -39,6 +40,24 @@ step-table (asks {s} {f} {o} {t} r h) = sym (asked-keeps (question s f o) (view 
 step-table (enables {s} {t} r h) = sym (asked-keeps (enabledFeatures s) (view t) refl)
 step-table (lists {s} {run} {after} {t} r h) = sym (asked-keeps (listing s run) (view t) refl)
 step-table (forecasts {c} {a} {t} r h) = sym (asked-keeps (forecastOf c a) (view t) refl)
+
+-- a call that writes nothing leaves the bytes, whatever its outcome
+kept-bytes : (c : Call) (t : List ℕ) → ((x : ModelTable) → changed c x t ≡ t) → t ≡ bytesLeft c t
+unfolding bytesLeft
+kept-bytes c t same = sym (kept (outcome c (view t)))
+  where
+    kept : (x : Outcome) → bytesIn c x t ≡ t
+    kept (refuse n) = refl
+    kept (accept a u) = same u
+
+pub step-bytes : {c : Call} {t u : List ℕ} {a : Answer} {run : List ℕ} → Step c t a run u → u ≡ bytesLeft c t
+step-bytes (load-top r h) = h .bytes
+step-bytes (load-framed r h) = h .bytes
+step-bytes (unloads r h) = h .bytes
+step-bytes (asks {s} {f} {o} {t} r h) = kept-bytes (question s f o) t (λ x. refl)
+step-bytes (enables {s} {t} r h) = kept-bytes (enabledFeatures s) t (λ x. refl)
+step-bytes (lists {s} {run} {after} {t} r h) = kept-bytes (listing s run) t (λ x. refl)
+step-bytes (forecasts {c} {a} {t} r h) = kept-bytes (forecastOf c a) t (λ x. refl)
 
 -- each table is one that the calls left: what each function requires
 pub step-valid : {c : Call} {t u : List ℕ} {a : Answer} {run : List ℕ} → Step c t a run u → Valid t → Valid u
@@ -94,6 +113,11 @@ module _ where
   steps-left (no-more {t}) = sym (left-end answerTo tableLeft (view t))
   steps-left (then {c} {cs} {t} s ss) = steps-left ss ∙ ap (leftBy tableLeft cs) (step-table s) ∙ sym (left-next answerTo tableLeft (view t) c cs)
 
+  steps-bytes : {cs : List Call} {t v : List ℕ} {l : List Answer} {runs : List (List ℕ)} → Steps cs t l runs v → v ≡ leftBy bytesLeft cs t
+  unfolding leftBy
+  steps-bytes no-more = refl
+  steps-bytes (then {cs = cs} s ss) = steps-bytes ss ∙ ap (leftBy bytesLeft cs) (step-bytes s)
+
   steps-runs : {cs : List Call} {t v : List ℕ} {l : List Answer} {runs : List (List ℕ)} → Steps cs t l runs v → runs ≡ runsAfter cs l
   unfolding runsAfter
   steps-runs no-more = refl
@@ -111,6 +135,10 @@ module _ {cs : List Call} {l : List Answer} (r : Run cs l) where
 
   pub run-table : view (r .left) ≡ tableAfter cs
   run-table = steps-left (r .steps) ∙ ap (leftBy tableLeft cs) (r .new .table refl) ∙ sym (table-is cs)
+
+  -- every byte of the lent memory
+  pub run-bytes : r .left ≡ leftBy bytesLeft cs (bytesOfNew (r .lent))
+  run-bytes = steps-bytes (r .steps) ∙ ap (leftBy bytesLeft cs) (r .new .bytes)
 
   pub run-runs : r .runs ≡ runsAfter cs (answers cs)
   run-runs = steps-runs (r .steps) ∙ ap (runsAfter cs) run-answers

@@ -74,7 +74,7 @@ MoreInRuns =
     → isAccepted (answerAt (length before) l) ≡ true → isAccepted (answerAt (length before) m) ≡ true
     → Each Keeps l m
 
--- the lent runs that a list of calls leaves, told its answers: each as its answer has it
+-- the run of numbers that a call is lent: none but a listing is lent one
 abbrev pub lentRun : Call → List ℕ
 lentRun (topLoad h o) = []
 lentRun (framedLoad c h o a) = []
@@ -84,6 +84,7 @@ lentRun (enabledFeatures s) = []
 lentRun (listing s run) = run
 lentRun (forecastOf c a) = []
 
+-- the lent runs that a list of calls leaves, told its answers: each as its answer has it
 unfoldable pub runsAfter : List Call → List Answer → List (List ℕ)
 runsAfter [] l = []
 runsAfter (c ∷ cs) [] = []

@@ -1,4 +1,4 @@
--- The laws of the table: the documents at its places, a slot that is given away, and a new table. Assumes nothing.
+-- The laws of the table: here the documents at its places, a slot that is given away, and a new table; in Puts what each write leaves, in Sweeping an unload, in Prefixes that nothing past the table is read. Assumes nothing.
 use mathlib.Core.Path.{_≡_, refl, ap, sym, _∙_, subst}
 use mathlib.Core.List.{List, [], _∷_, _++_}
 use mathlib.Core.Bool.{Bool, true, false, _||_}

@@ -9,6 +9,7 @@ use lib.Dec.{ltb}
 use lib.ListN.{length, take}
 use borrow.Author.Tests.{lt-ltb, le-ltb}
 use Rattle.ascii.proofs.Clash.{clash}
+use Rattle.limits.specs.declared.Refusal.{Refusal}
 use Rattle.limits.specs.declared.Refusal.the-variants.{NotLoaded, NoSuchFeature, BadOrigin, Small}
 use Rattle.features.specs.Features.{featureCount}
 use Rattle.ascii.specs.Bytes.{pick}
@@ -30,13 +31,14 @@ use Rattle.document_table.specs.declared.Found.{Found}
 use Rattle.document_table.specs.declared.Found.the-variants as found
 use Rattle.document_table.specs.declared.Serials.{Serials}
 use Rattle.document_table.proofs.Laws.{doc-at, doc-serial, docs-are, new-sound, new-view}
+use Rattle.document_table.proofs.Prefixes.{same-sound, same-view}
 use Rattle.documents.specs.declared.NewAnswer.the-variants as made
 use Rattle.documents.specs.declared.QuestionAnswer.{QuestionAnswer}
 use Rattle.documents.specs.declared.QuestionAnswer.the-variants as question
 use Rattle.documents.specs.declared.UnloadAnswer.the-variants as unloading
 use Rattle.documents.specs.declared.ListingAnswer.the-variants as listing
 use Rattle.documents.specs.Bytes.{bytesIn, bytesLeft}
-use Rattle.documents.specs.Answers.{Valid, questionIn, newIn, IsNew, Unloads, Lists}
+use Rattle.documents.specs.Answers.{Valid, questionIn, newRefusal, IsNew, Unloads, Lists}
 use Rattle.documents.specs.Steps.{isBad}
 
 -- ---- what holds of a table that calls left
@@ -48,6 +50,16 @@ valid-ascends run v =
           let h = serials-ascend (v .calls) (docAt run) (countIn run) (sym (docs-are run) ∙ ap (λ (t : ModelTable). t .docs) (v .left)) i j lt less in
           omega (arith, doc-serial run i, doc-serial run j);
     }
+
+-- a table may be moved to other memory, whatever lies past it
+pub same-valid : (a b : List ℕ) → take tableBytes b ≡ take tableBytes a → Valid a → Valid b × (view b ≡ view a)
+same-valid a b same v =
+    let seen = same-view a b same (v .sound) in
+    (record { sound = same-sound a b same (v .sound); calls = v .calls; left = seen ∙ v .left }, seen)
+
+-- bytes that say the table which a call leaves
+pub valid-next : (c : Call) (run after : List ℕ) → Valid run → Sound after → view after ≡ tableLeft c (view run) → Valid after
+valid-next c run after v s e = record { sound = s; calls = v .calls ++ (c ∷ []); left = e ∙ (ap (tableLeft c) (v .left) ∙ sym (table-one (v .calls) c)) }
 
 -- the bytes that a call leaves, by its outcome
 pub bytes-of : (c : Call) (run : List ℕ) (x : Outcome) → outcome c (view run) ≡ x → bytesLeft c run ≡ bytesIn c x run
@@ -77,7 +89,7 @@ new-ready run after h e =
     }
 
 -- 02, R-4: "(4 MiB never is)"
-pub never-short : (run : List ℕ) → 4 * 1024 * 1024 ≤ length run → newIn run ≡ made.Ready
+pub never-short : (run : List ℕ) → 4 * 1024 * 1024 ≤ length run → newRefusal run ≡ none
 unfolding pick
 never-short run h = rw (le-ltb (length run) tableBytes (omega arith)) refl
 
@@ -147,31 +159,32 @@ module _ (t : List ℕ) (s : ℕ) (f : Found) (h : IsFound t s f) where
 
 -- ---- an unload
 
+-- by its outcome
+pub kept-unload : (t : List ℕ) (s : ℕ) (n : Refusal) → Valid t → outcome (unload s) (view t) ≡ refuse n → Unloads (unload s) t t (unloading.Refused n)
+kept-unload t s n valid e =
+    record { valid = valid; answer = sym (answer-of (unload s) (view t) (refuse n) e); table = sym (table-of (unload s) (view t) (refuse n) e); bytes = sym (bytes-of (unload s) t (refuse n) e) }
+
+pub removed-unload : (t u : List ℕ) (s n : ℕ) → Valid t → outcome (unload s) (view t) ≡ accept (removed (removedCount s (docsIn t))) (record { docs = remaining s (docsIn t); next = suc (lastIn t) }) → IsRemoved t s u n
+    → Unloads (unload s) t u (unloading.Removed n)
+removed-unload t u s n valid e gone =
+    let after : ModelTable = record { docs = remaining s (docsIn t); next = suc (lastIn t) } in
+    let docs : docsIn u ≡ remaining s (docsIn t) = gone .docs in
+    let next : suc (lastIn u) ≡ suc (lastIn t) = ap suc (gone .last) in
+    let seen : view u ≡ after = cc in
+    let left : view u ≡ tableLeft (unload s) (view t) = seen ∙ sym (table-of (unload s) (view t) (accept (removed (removedCount s (docsIn t))) after) e) in
+    record {
+      valid = valid-next (unload s) t u valid (gone .sound) left;
+      answer = ap removed (gone .count) ∙ sym (answer-of (unload s) (view t) (accept (removed (removedCount s (docsIn t))) after) e);
+      table = left;
+      bytes = gone .is ∙ sym (bytes-of (unload s) t (accept (removed (removedCount s (docsIn t))) after) e);
+    }
+
 module _ (t : List ℕ) (s : ℕ) (f : Found) (valid : Valid t) (h : IsFound t s f) where
   pub refused-unload : f ≡ found.None → Unloads (unload s) t t (unloading.Refused NotLoaded)
-  refused-unload k =
-      let e = unload-closed s (view t) (h .none-at k) in
-      record {
-        valid = valid;
-        answer = sym (answer-of (unload s) (view t) (refuse NotLoaded) e);
-        table = sym (table-of (unload s) (view t) (refuse NotLoaded) e);
-        bytes = sym (bytes-of (unload s) t (refuse NotLoaded) e);
-      }
+  refused-unload k = kept-unload t s NotLoaded valid (unload-closed s (view t) (h .none-at k))
 
   pub answered-unload : (i n : ℕ) (u : List ℕ) → f ≡ found.At i → IsRemoved t s u n → Unloads (unload s) t u (unloading.Removed n)
-  answered-unload i n u k gone =
-      let after : ModelTable = record { docs = remaining s (docsIn t); next = suc (lastIn t) } in
-      let e = unload-answer s (view t) (docAt t i) (h .some-at i k .1) in
-      let docs : docsIn u ≡ remaining s (docsIn t) = gone .docs in
-      let next : suc (lastIn u) ≡ suc (lastIn t) = ap suc (gone .last) in
-      let seen : view u ≡ after = cc in
-      let left : view u ≡ tableLeft (unload s) (view t) = seen ∙ sym (table-of (unload s) (view t) (accept (removed (removedCount s (docsIn t))) after) e) in
-      record {
-        valid = record { sound = gone .sound; calls = valid .calls ++ (unload s ∷ []); left = left ∙ (ap (tableLeft (unload s)) (valid .left) ∙ sym (table-one (valid .calls) (unload s))) };
-        answer = ap removed (gone .count) ∙ sym (answer-of (unload s) (view t) (accept (removed (removedCount s (docsIn t))) after) e);
-        table = left;
-        bytes = gone .is ∙ sym (bytes-of (unload s) t (accept (removed (removedCount s (docsIn t))) after) e);
-      }
+  answered-unload i n u k gone = removed-unload t u s n valid (unload-answer s (view t) (docAt t i) (h .some-at i k .1)) gone
 
 -- ---- a listing
 

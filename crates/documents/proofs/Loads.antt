@@ -19,7 +19,6 @@ use Rattle.declarations.specs.Declarations.{isMalformed}
 use Rattle.decisions.specs.Decisions.{inheritedTop}
 use Rattle.decisions.specs.Masks.{maskOf}
 use Rattle.document_model.specs.Model.{Text, Table as ModelTable, Identity, Document as ModelDocument, declaredBy, Call, topLoad, loaded, refuse, accept, isGoodAtTop, load as loadOf, outcome, topDocument, topIdentity, tableLeft}
-use Rattle.document_model.proofs.Laws.{table-one}
 use Rattle.document_model.proofs.Parts.{top-identity, top-document}
 use Rattle.document_model.proofs.RowByRow.{answer-of, table-of, load-full, load-spent, load-answer, top-long, top-bad, top-load}
 use Rattle.document_table.specs.Layout.{countIn, lastIn, slotNumber, slotOf, docsIn, view, loadedRun}
@@ -34,7 +33,7 @@ use Rattle.documents.specs.declared.LoadAnswer.the-variants as loading
 use Rattle.documents.specs.Bytes.{newest, noDocument, withNewest, changed}
 use Rattle.documents.specs.Answers.{Valid, Loads}
 use Rattle.documents.specs.Steps.{isBadAtTop, HasRoom, IsRoom, Placed, Places}
-use Rattle.documents.proofs.Answering.{bytes-of}
+use Rattle.documents.proofs.Answering.{valid-next, bytes-of}
 
 -- ---- room and a serial
 
@@ -63,33 +62,42 @@ pub refused-load : (c : Call) (t : List ℕ) (n : Refusal) → Valid t → outco
 refused-load c t n valid e =
     record { valid = valid; answer = sym (answer-of c (view t) (refuse n) e); table = sym (table-of c (view t) (refuse n) e); bytes = sym (bytes-of c t (refuse n) e) }
 
-pub newest-last : (l : List ModelDocument) (d x : ModelDocument) → newest d (l ++ (x ∷ [])) ≡ x
+newest-last : (l : List ModelDocument) (d x : ModelDocument) → newest d (l ++ (x ∷ [])) ≡ x
 unfolding newest
 newest-last [] d x = refl
 newest-last (y ∷ l) d x = newest-last l y x
 
+-- a document that was written, by the load's outcome
+pub pushed-load : (c : Call) (t u h : List ℕ) (m k : Bool) (n : ℕ) (i : Identity) (b : ℕ) → Valid t
+    → outcome c (view t) ≡ accept (loaded (suc (lastIn t)) m) (record { docs = docsIn t ++ (record { identity = i; inherited = b; declared = declaredBy h } ∷ []); next = suc (suc (lastIn t)) })
+    → n ≡ suc (lastIn t) → k ≡ m → Placed t i b h u → ((x : ModelTable) → changed c x t ≡ withNewest t x h)
+    → Loads c t u (loading.Loaded (record { serial = n; malformed = k }))
+pushed-load c t u h m k n i b valid e q w p changes =
+    let x : ModelDocument = record { identity = i; inherited = b; declared = declaredBy h } in
+    let after : ModelTable = record { docs = docsIn t ++ (record { identity = i; inherited = b; declared = declaredBy h } ∷ []); next = suc (suc (lastIn t)) } in
+    let docs : docsIn u ≡ docsIn t ++ (record { identity = i; inherited = b; declared = declaredBy h } ∷ []) = p .docs in
+    let next : suc (lastIn u) ≡ suc (suc (lastIn t)) = ap suc (p .last ∙ add-one (lastIn t)) in
+    let seen : view u ≡ after = cc in
+    let leaves : view u ≡ tableLeft c (view t) = seen ∙ sym (table-of c (view t) (accept (loaded (suc (lastIn t)) m) after) e) in
+    record {
+      valid = valid-next c t u valid (p .sound) leaves;
+      answer = rw (q, w) (sym (answer-of c (view t) (accept (loaded (suc (lastIn t)) m) after) e));
+      table = leaves;
+      bytes =
+          p .is
+          ∙ (ap (λ (y : ModelDocument). loadedRun t (written (slotOf t (slotNumber t (countIn t))) y h)) (sym (newest-last (docsIn t) noDocument x))
+          ∙ (sym (changes after) ∙ sym (bytes-of c t (accept (loaded (suc (lastIn t)) m) after) e)));
+    }
+
+-- in the terms of the code
 pub accepted-load : (c : Call) (t u h : List ℕ) (m k : Bool) (n : ℕ) (document : Identity → ModelDocument) (identity : ℕ → Identity) (i : Identity) (b : ℕ) → Valid t → outcome c (view t) ≡ loadOf (view t) m document identity
     → countIn t < documentLimit → lastIn t < lastSerial → n ≡ suc (lastIn t) → k ≡ m → _≡_ {A = ModelDocument} (record { identity = i; inherited = b; declared = declaredBy h }) (document (identity (suc (lastIn t)))) → Placed t i b h u
     → ((x : ModelTable) → changed c x t ≡ withNewest t x h)
     → Loads c t u (loading.Loaded (record { serial = n; malformed = k }))
 accepted-load c t u h m k n document identity i b valid e room left q w is p changes =
-    let x : ModelDocument = document (identity (suc (lastIn t))) in
-    let after : ModelTable = record { docs = docsIn t ++ (document (identity (suc (lastIn t))) ∷ []); next = suc (suc (lastIn t)) } in
     let lt : length (docsIn t) < documentLimit = omega (arith, docs-length t) in
-    let o : outcome c (view t) ≡ accept (loaded (suc (lastIn t)) m) after = e ∙ load-answer (view t) m document identity lt (omega arith) in
-    let docs : docsIn u ≡ docsIn t ++ (document (identity (suc (lastIn t))) ∷ []) = p .docs ∙ ap (λ (y : ModelDocument). docsIn t ++ (y ∷ [])) is in
-    let next : suc (lastIn u) ≡ suc (suc (lastIn t)) = ap suc (p .last ∙ add-one (lastIn t)) in
-    let seen : view u ≡ after = cc in
-    let leaves : view u ≡ tableLeft c (view t) = seen ∙ sym (table-of c (view t) (accept (loaded (suc (lastIn t)) m) after) o) in
-    record {
-      valid = record { sound = p .sound; calls = valid .calls ++ (c ∷ []); left = leaves ∙ (ap (tableLeft c) (valid .left) ∙ sym (table-one (valid .calls) c)) };
-      answer = rw (q, w) (sym (answer-of c (view t) (accept (loaded (suc (lastIn t)) m) after) o));
-      table = leaves;
-      bytes =
-          p .is
-          ∙ (ap (λ (y : ModelDocument). loadedRun t (written (slotOf t (slotNumber t (countIn t))) y h)) (is ∙ sym (newest-last (docsIn t) noDocument x))
-          ∙ (sym (changes after) ∙ sym (bytes-of c t (accept (loaded (suc (lastIn t)) m) after) o)));
-    }
+    let o = e ∙ (load-answer (view t) m document identity lt (omega arith) ∙ ap (λ (y : ModelDocument). accept (loaded (suc (lastIn t)) m) (record { docs = docsIn t ++ (y ∷ []); next = suc (suc (lastIn t)) })) (sym is)) in
+    pushed-load c t u h m k n i b valid o q w p changes
 
 -- ---- a load at the top
 

@@ -10,15 +10,25 @@ use lib.ListN.{length, take, drop, length-take, length-drop}
 use Rattle.writing.specs.Writing.{withText}
 use Rattle.limits.specs.Limits.{textBytes, documentLimit, lastSerial}
 use Rattle.lent_bytes.proofs.Laws.{mid-put, put-long}
-use Rattle.document_model.specs.Model.{Text, Identity, Document, declaredBy}
+use Rattle.document_model.specs.Model.{Text, Identity, Document}
 use Rattle.document_records.specs.Slots.{slotBytes, documentIn}
 use Rattle.document_table.specs.Layout.{tableBytes, countIn, lastIn, slotNumber, slotPlace, slotOf, docsIn, withSlot, pushed, canPush, loadedRun}
 use Rattle.document_table.proofs.Puts.{with-count, with-last}
 use Rattle.document_table.proofs.Laws.{loaded-sound, loaded-docs, loaded-last}
 use Rattle.document_loads.specs.declared.NewDocument.{NewDocument}
-use Rattle.document_loads.specs.Slots.{written, Written, Writes}
+use Rattle.document_loads.specs.Slots.{Written, Writes}
 use Rattle.document_loads.proofs.Putting.{header-is}
 use Rattle.documents.specs.Steps.{HasRoom, Placed, Places}
+
+-- a slot that a document was written into, in the place of the first free one
+pub slot-placed : (run slot : List ℕ) (i : Identity) (m : ℕ) (h : Text) → HasRoom run → length slot ≡ slotBytes → Written (slotOf run (slotNumber run (countIn run))) i m h slot → i .serial ≡ suc (lastIn run) → Placed run i m h (loadedRun run slot)
+slot-placed run slot i m h has full w serial =
+    record {
+      is = ap (loadedRun run) (w .is);
+      sound = loaded-sound run slot (has .sound) full (has .room) (has .left) (w .good);
+      docs = loaded-docs run slot (has .sound) full (has .room) (has .left) ∙ ap (λ (x : Document). docsIn run ++ (x ∷ [])) (ap (λ (j : ℕ). documentIn j slot) (sym serial) ∙ w .says);
+      last = loaded-last run slot (has .sound) full (has .room) (has .left);
+    }
 
 given : (run : List ℕ) → canPush run ≡ true → pick (canPush run) (pushed run) run ≡ pushed run
 unfolding pick
@@ -49,13 +59,6 @@ module _ (run slot : List ℕ) (p k n : ℕ) (d : NewDocument) (h : List ℕ) (r
   is-placed after s e =
       let whole : after ≡ loadedRun run slot = e ∙ (ap (λ (l : List ℕ). pick (canPush l) (pushed l) l) between ∙ given (withSlot run (slotNumber run (countIn run)) slot) room-there) in
       record {
-        says = λ i m new serial few.
-            let q = w .says i m new few le in
-            record {
-              is = whole ∙ ap (loadedRun run) (q .is ∙ ap (λ (l : List ℕ). written l (record { identity = i; inherited = m; declared = declaredBy h }) h) part-is);
-              sound = rw whole (loaded-sound run slot (has .sound) full (has .room) (has .left) (q .good));
-              docs = rw whole (loaded-docs run slot (has .sound) full (has .room) (has .left) ∙ ap (λ (x : Document). docsIn run ++ (x ∷ [])) (ap (λ (j : ℕ). documentIn j slot) (sym serial) ∙ q .says));
-              last = rw whole (loaded-last run slot (has .sound) full (has .room) (has .left));
-            };
+        says = λ i m new serial few. rw whole (slot-placed run slot i m h has full (rw part-is at (w .says i m new few le)) serial);
         malformed = w .malformed ∙ header-is h le .1;
       }

@@ -2,12 +2,12 @@
 use Prim.Native.Nat.{ℕ}
 use mathlib.Core.Path.{_≡_}
 use mathlib.Core.List.{List}
+use mathlib.Core.Option.{Option, some, none}
 use lib.Dec.{ltb}
 use lib.ListN.{length}
 use Rattle.ascii.specs.Bytes.{pick}
 use Rattle.limits.specs.Refusals.{refusalNumber}
 use Rattle.limits.specs.declared.Refusal.{Refusal}
-use Rattle.limits.specs.declared.Refusal.the-variants.{Small}
 use Rattle.decisions.specs.Decisions.Decision.{disabled, enabled}
 use Rattle.document_model.specs.Model.{Call, Answer, refused, loaded, removed, decision, features, serials, newTable, answerTo, tableLeft, tableAfter}
 use Rattle.document_table.specs.Layout.{tableBytes, view, newRun}
@@ -26,7 +26,7 @@ use Rattle.documents.specs.declared.UnloadAnswer.the-variants as unload
 use Rattle.documents.specs.declared.ListingAnswer.{ListingAnswer}
 use Rattle.documents.specs.declared.ListingAnswer.the-variants as listing
 
--- "The shell hands each call the table as the last call left it, unaltered, in lent memory too": sound bytes that say a table which calls on a new one left. What stands in free slots and past the table is left open: no call depends on it
+-- "The shell hands each call the table as the last call left it, unaltered, in lent memory too": sound bytes that say a table which calls on a new one left. What stands in free slots and past the table is left open: no answer depends on it
 pub record Valid (run : List ℕ) : Type 0 where
   pub sound : Sound run
   pub calls : List Call
@@ -55,15 +55,21 @@ abbrev pub listingIn : ListingAnswer → List ℕ → Answer
 listingIn (listing.Count n) run = serials n run
 listingIn (listing.Refused n) run = refused (refusalNumber n)
 
--- 02, R-4: "a new table in too short a run (4 MiB never is) is refused with 9"; else it is empty, and every byte is that of the definition
-abbrev pub newIn : List ℕ → NewAnswer
-newIn run = pick (ltb (length run) tableBytes) (made.Refused Small) made.Ready
+-- the number of a new table's refusal; none where it was made
+abbrev pub newIn : NewAnswer → Option ℕ
+newIn made.Ready = none
+newIn (made.Refused n) = some (refusalNumber n)
 
+-- 02, R-4: "a new table in too short a run (4 MiB never is) is refused with 9"
+abbrev pub newRefusal : List ℕ → Option ℕ
+newRefusal run = pick (ltb (length run) tableBytes) (some 9) none
+
+-- else it is empty; what is refused changes nothing
 abbrev pub bytesOfNew : List ℕ → List ℕ
 bytesOfNew run = pick (ltb (length run) tableBytes) run (newRun run)
 
 pub record IsNew (before after : List ℕ) (r : NewAnswer) : Type 0 where
-  pub answer : r ≡ newIn before
+  pub answer : newIn r ≡ newRefusal before
   pub bytes : after ≡ bytesOfNew before
   pub valid : r ≡ made.Ready → Valid after
   pub table : r ≡ made.Ready → view after ≡ newTable

@@ -3,11 +3,10 @@ use mathlib.Core.Path.{_≡_, refl, ap, _∙_, sym}
 use Prim.Native.Nat.{ℕ, zero, suc, _+_, _-_, _*_, _/_, _%_, _^_, _≤_, _<_}
 use mathlib.Core.List.{List, [], _∷_, _++_, append-assoc, append-nil}
 use native.Mathlib.Omega.{arith}
-use lib.ListN.{length, getD, take, drop, length-take, length-drop, length-append}
-use lib.Seq.{getD-take, getD-drop}
+use lib.ListN.{length, getD, drop, length-append}
 use Rattle.writing.specs.Writing.{withText}
 use Rattle.writing.proofs.Places.{put-long, put-nothing, put-past, get-below, get-above, get-here, with-append}
-use Rattle.lent_bytes.specs.Numbers.{word, numberAt, bytesOf, bytesAt, numbersIn, numberBytes}
+use Rattle.lent_bytes.specs.Numbers.{word, numberAt, bytesOf, numbersIn, numberBytes}
 pub use Rattle.writing.proofs.Places.{put-long, put-nothing, put-past, get-below, get-above, get-here, part-here, part-below, part-above, part-put, mid-put, part-front, with-append}
 
 pub bytes-long : (x : ℕ) → length (bytesOf x) ≡ 4
@@ -77,16 +76,6 @@ numbers-end (a ∷ b ∷ []) zero h = refl
 numbers-end (a ∷ b ∷ c ∷ []) zero h = refl
 numbers-end (a ∷ b ∷ c ∷ d ∷ l) zero h = absurd (omega arith)
 numbers-end (x ∷ l) (suc i) h = numbers-end l i (omega arith)
-
--- a number of a part of the run
-pub number-in-part : (l : List ℕ) (p n i : ℕ) → i + 4 ≤ n → numberAt (bytesAt l p n) i ≡ numberAt l (p + i)
-unfolding numberAt
-number-in-part l p n i h =
-    let e1 : p + (i + 1) ≡ p + i + 1 = omega arith in
-    let e2 : p + (i + 2) ≡ p + i + 2 = omega arith in
-    let e3 : p + (i + 3) ≡ p + i + 3 = omega arith in
-    let g : (j : ℕ) → j < n → getD (take n (drop p l)) j 0 ≡ getD l (p + j) 0 = λ j lt. getD-take n (drop p l) j 0 lt ∙ getD-drop p l j 0 in
-    rw (g i (omega arith), g (i + 1) (omega arith), g (i + 2) (omega arith), g (i + 3) (omega arith), e1, e2, e3) refl
 
 -- the bytes of numbers
 pub bytes-none : numberBytes [] ≡ []

@@ -1,4 +1,4 @@
--- The laws of origins and expressions for the crates above: these, those that the `pub use` lines pass on, `TextParts` and `Alike`. Assumes nothing.
+-- The laws of origins and expressions for the crates above: these, those that the `pub use` lines pass on, `TextParts`, `Steps` and `Alike`. Assumes nothing.
 use mathlib.Core.Path.{_≡_, refl, ap, _∙_, sym}
 use Prim.Native.Nat.{ℕ, _+_, _-_, _≤_, _<_}
 use mathlib.Core.List.{List, [], _∷_, _++_}

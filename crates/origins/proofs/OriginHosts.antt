@@ -2,14 +2,12 @@
 use mathlib.Core.Path.{_≡_}
 use Prim.Native.Nat.{ℕ, _≤_}
 use mathlib.Core.List.{List}
-use mathlib.Core.Bool.{Bool, true, false}
+use mathlib.Core.Bool.{true}
 use lib.ListN.{length}
 use Rattle.limits.specs.Limits.{hostBytes}
-use Rattle.ascii.specs.Texts.{each, every}
+use Rattle.ascii.specs.Texts.{every}
 use Rattle.origins.specs.Hosts.{isHost, isOriginHost}
 use Rattle.origins.specs.Origins.{notColon}
-use Rattle.origins.specs.Steps.{fold}
-use Rattle.origins.proofs.Steps.{each-as-is}
 use Rattle.origins.proofs.HostBytes.{host-bytes, host-some, host-most, host-no-colon}
 
 -- a host is one that an origin text can have
@@ -34,8 +32,3 @@ module _ (h : List ℕ) (e : isOriginHost h ≡ true) where
 
   pub origin-host-no-colon : every notColon h ≡ true
   origin-host-no-colon = host-no-colon h (host-bytes h is-host)
-
--- as the code tests it
-pub origin-host-is : (h : List ℕ) (r : Bool) → r ≡ isHost (each (fold false) h) → r ≡ isOriginHost h
-unfolding isOriginHost
-origin-host-is h r e = rw (each-as-is h) at e

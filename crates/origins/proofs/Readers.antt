@@ -10,14 +10,14 @@ use Rattle.ascii.specs.Bytes.{pick, lower}
 use Rattle.ascii.specs.Literals
 use Rattle.ascii.specs.Texts.{sameBytes, sameLowered}
 use Rattle.ascii.proofs.Texts.{same-is}
-use Rattle.origins.specs.Origins.{schemeText, schemeSlashes, pastScheme, nullText, startsWith, tupleOf, originOf}
+use Rattle.origins.specs.Origins.{schemeText, schemeSlashes, pastScheme, nullText, startsWith, tupleOf, bySchemes, originOf}
 use Rattle.origins.specs.Expressions.{schemeSource, startsLowered, hostSourceOf, expressionOf}
 use Rattle.origins.specs.Answers.{originAs, sourceAs}
 use Rattle.origins.specs.declared.Scheme.the-variants.{Http, Https}
 use Rattle.origins.specs.declared.OriginText.{OriginText}
 use Rattle.ascii.proofs.Clash.{clash}
 use Rattle.origins.specs.declared.Scheme.{Scheme}
-use Rattle.origins.specs.Steps.{bySchemes, IsScheme}
+use Rattle.origins.specs.Steps.{IsScheme}
 use Rattle.origins.specs.declared.SchemeRead.{SchemeRead}
 use Rattle.origins.specs.declared.SchemeRead.the-variants as scheme
 use Rattle.origins.specs.declared.OriginText.the-variants as text

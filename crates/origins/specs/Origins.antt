@@ -62,10 +62,12 @@ withPort k h none = noOrigin
 unfoldable pub tupleOf : Scheme → List ℕ → OriginSaid
 tupleOf k l = pick (isOriginHost (runOf notColon l)) (withPort k (runOf notColon l) (originPort k (past notColon l))) noOrigin
 
+-- a text that is neither empty nor `null`, by its scheme
+abbrev pub bySchemes : List ℕ → OriginSaid
+bySchemes s =
+    pick (startsWith (schemeSlashes Http) s) (tupleOf Http (pastScheme Http s))
+    (pick (startsWith (schemeSlashes Https) s) (tupleOf Https (pastScheme Https s)) noOrigin)
+
 -- "An origin text is `http://` or `https://`, a host, and perhaps `:` and a port; or `null`; or empty."
 unfoldable pub originOf : List ℕ → OriginSaid
-originOf s =
-    pick (isEmpty s) saysEmpty
-    (pick (sameBytes s nullText) saysNull
-    (pick (startsWith (schemeSlashes Http) s) (tupleOf Http (pastScheme Http s))
-    (pick (startsWith (schemeSlashes Https) s) (tupleOf Https (pastScheme Https s)) noOrigin)))
+originOf s = pick (isEmpty s) saysEmpty (pick (sameBytes s nullText) saysNull (bySchemes s))

@@ -12,10 +12,9 @@ use Rattle.ascii.specs.Places.{IsRun}
 use Rattle.ascii.specs.declared.Class.the-variants.{Not}
 use Rattle.ascii.specs.Decimals.{decimal}
 use Rattle.origins.specs.Hosts.{labels, isLabel}
-use Rattle.origins.specs.Origins.{OriginSaid, schemeSlashes, pastScheme, startsWith, notColon, tupleOf}
+use Rattle.origins.specs.Origins.{schemeSlashes, pastScheme, notColon, tupleOf, bySchemes}
 use Rattle.origins.specs.Origins.OriginSaid.{noOrigin}
 use Rattle.origins.specs.declared.Scheme.{Scheme}
-use Rattle.origins.specs.declared.Scheme.the-variants.{Http, Https}
 use Rattle.origins.specs.declared.SchemeRead.{SchemeRead}
 use Rattle.origins.specs.declared.SchemeRead.the-variants as scheme
 use Rattle.origins.specs.declared.HostEnd.{HostEnd}
@@ -59,10 +58,7 @@ pub record IsHostEnd (s : List ℕ) (from : ℕ) (r : HostEnd) : Type 0 where
   pub some-at : (e : ℕ) → r ≡ end.At e → IsRun (Not 58) s from e × (hostLabels s from ≡ true)
   pub none-good : r ≡ end.None → hostLabels s from ≡ false
 
--- what a text says that is neither empty nor `null`, by its scheme
-abbrev pub bySchemes : List ℕ → OriginSaid
-bySchemes s = pick (startsWith (schemeSlashes Http) s) (tupleOf Http (pastScheme Http s)) (pick (startsWith (schemeSlashes Https) s) (tupleOf Https (pastScheme Https s)) noOrigin)
-
+-- the scheme that a text starts with, and what the text says by it
 pub record IsScheme (s : List ℕ) (r : SchemeRead) : Type 0 where
   pub of : (k : Scheme) → r ≡ scheme.Of k → (length (schemeSlashes k) ≤ length s) × (bySchemes s ≡ tupleOf k (pastScheme k s))
   pub none-known : r ≡ scheme.None → bySchemes s ≡ noOrigin

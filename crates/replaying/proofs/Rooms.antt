@@ -1,8 +1,9 @@
 -- An answer and its line feed have room behind those that wait. Assumes nothing.
-use mathlib.Core.Path.{_≡_, refl, sym, _∙_}
+use mathlib.Core.Path.{_≡_, refl, ap, sym, _∙_}
 use Prim.Native.Nat.{ℕ, _+_, _≤_, _<_}
 use mathlib.Core.List.{List, [], _∷_, _++_}
 use mathlib.Core.Bool.{Bool, true, false}
+use mathlib.Core.Option.{some, none}
 use native.Mathlib.Omega.{arith}
 use lib.ListN.{length, length-append}
 use lib.Dec.{ltb}
@@ -10,7 +11,7 @@ use borrow.Author.Tests.{ltb-true, lt-ltb, le-ltb}
 use Rattle.ascii.specs.Bytes.{pick}
 use Rattle.ascii.proofs.Clash.{clash}
 use Rattle.limits.specs.declared.Refusal.{Refusal}
-use Rattle.limits.specs.declared.Refusal.the-variants.{Small}
+use Rattle.limits.specs.Refusals.{refusalNumber}
 use Rattle.writing.specs.Writing.{Puts}
 use Rattle.writing.proofs.Laws.{puts-on}
 use Rattle.document_table.specs.Layout.{tableBytes, view}
@@ -21,7 +22,7 @@ use Rattle.replay_lines.specs.Reading.{newReading}
 use Rattle.replay_lines.specs.Answers.{readingIn}
 use Rattle.replay_session.specs.Session.{lineAnswer, lineTable}
 use Rattle.replay_session.specs.Answers.{lineBytes, Answers}
-use Rattle.documents.specs.Answers.{Valid, newIn, IsNew}
+use Rattle.documents.specs.Answers.{Valid, newIn, newRefusal, IsNew}
 use Rattle.documents.specs.declared.NewAnswer.{NewAnswer}
 use Rattle.documents.specs.declared.NewAnswer.the-variants as made
 use Rattle.replaying.specs.declared.Session.{Session}
@@ -61,7 +62,7 @@ module _ (before table : List ℕ) (r : NewAnswer) (new : IsNew before table r) 
   unfolding pick
   replayed-ready after e v =
       record {
-        short = λ h. (let q : newIn before ≡ made.Refused Small = rw (lt-ltb (length before) tableBytes h) refl in let s = new .answer in clash cc);
+        short = λ h. (let q : newRefusal before ≡ some 9 = rw (lt-ltb (length before) tableBytes h) refl in let s : none ≡ newRefusal before = ap newIn (sym e) ∙ new .answer in clash cc);
         valid = λ h. v;
       }
 
@@ -70,5 +71,5 @@ module _ (before table : List ℕ) (r : NewAnswer) (new : IsNew before table r) 
   replayed-refused n e =
       record {
         short = λ h. new .bytes ∙ rw (lt-ltb (length before) tableBytes h) refl;
-        valid = λ h. (let q : newIn before ≡ made.Ready = rw (le-ltb (length before) tableBytes h) refl in let s = new .answer in let z : _≡_ {A = ℕ} 0 1 = cc in absurd (omega arith));
+        valid = λ h. (let q : newRefusal before ≡ none = rw (le-ltb (length before) tableBytes h) refl in let s : some (refusalNumber n) ≡ newRefusal before = ap newIn (sym e) ∙ new .answer in let z : _≡_ {A = ℕ} 0 1 = cc in absurd (omega arith));
       }

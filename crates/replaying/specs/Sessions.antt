@@ -17,7 +17,7 @@ use Rattle.replaying.specs.declared.Session.{Session}
 
 -- answers are gathered in so many bytes
 abbrev pub outBytes : ℕ
-outBytes = answerBytes + 2041
+outBytes = answerBytes + 1529
 
 -- the table is one that the calls left, and any answer and its line feed have room behind the answers that wait: so none is cut
 pub record Ready (run : List ℕ) (s : Session) : Type 0 where

@@ -14,7 +14,7 @@ const STDOUT: i32 = 1;
 const STDERR: i32 = 2;
 
 // Answers are gathered in so many bytes before they are written: all buffers of a program, its table aside, have to stay within 64 KiB.
-const OUT_BYTES: usize = replay_answers::ANSWER_BYTES + 2041;
+const OUT_BYTES: usize = replay_answers::ANSWER_BYTES + 1529;
 
 // What was read of the line, whether the line has begun, how many bytes of answers wait to be written, and whether a write failed.
 struct Session {

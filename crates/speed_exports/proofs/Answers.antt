@@ -1,26 +1,17 @@
--- The answers of the calls on the table as numbers, arm by arm, and that their counts are within the limit. Assumes nothing.
+-- The answers of the calls on the table as numbers, arm by arm. Assumes nothing.
 use mathlib.Core.Path.{_≡_, refl, ap, _∙_}
 use Prim.Native.Nat.{ℕ, _≤_}
-use native.Mathlib.Omega.{arith}
-use mathlib.Core.Bool.{Bool, true, false}
+use mathlib.Core.Bool.{true, false}
 use mathlib.Core.List.{List}
-use mathlib.Core.Option.{Option, some, none}
-use lib.Dec.{leb}
-use lib.ListN.{length}
 use Rattle.ascii.specs.Bytes.{pick}
-use Rattle.ascii.proofs.Clash.{clash}
 use Rattle.limits.specs.Limits.{documentLimit}
 use Rattle.limits.specs.Refusals.{refusalNumber}
 use Rattle.limits.specs.declared.Refusal.{Refusal}
-use Rattle.limits.specs.declared.Refusal.the-variants.{Small}
-use Rattle.document_model.specs.Model.{Document, Table, Call, framedLoad, unload as unloadOf, listing as listingOf, forecastOf, refused, removed, serials, refuseUnless, withDocument, accept, answerIn, answerTo, outcome, textsFit, fittingOutcome, find, removedCount, serialsBeneath, stored}
-use Rattle.document_model.proofs.Tables.{count}
-use Rattle.document_model.proofs.DocumentLists.{beneath-fewer}
-use Rattle.document_table.specs.Layout.{countIn, docsIn, view}
-use Rattle.document_table.proofs.Laws.{docs-length}
+use Rattle.document_model.specs.Model.{Call, framedLoad, forecastOf, refused, answerTo}
+use Rattle.document_table.specs.Layout.{view}
 use Rattle.document_loads.specs.Loads.{attributes}
 use Rattle.document_loads.specs.declared.FrameMarks.{FrameMarks}
-use Rattle.documents.specs.Answers.{Valid, questionIn, featuresIn, loadIn, unloadIn, listingIn, Decides, TellsFeatures, Loads, Unloads, Lists}
+use Rattle.documents.specs.Answers.{questionIn, featuresIn, loadIn, unloadIn, listingIn, Decides, TellsFeatures, Loads, Unloads, removedBy, Lists, listedBy}
 use Rattle.documents.specs.declared.NewAnswer.{NewAnswer}
 use Rattle.documents.specs.declared.NewAnswer.the-variants as made
 use Rattle.documents.specs.declared.QuestionAnswer.{QuestionAnswer}
@@ -35,7 +26,7 @@ use Rattle.documents.specs.declared.UnloadAnswer.the-variants as unload
 use Rattle.documents.specs.declared.ListingAnswer.{ListingAnswer}
 use Rattle.documents.specs.declared.ListingAnswer.the-variants as listing
 use Rattle.speed_exports.specs.declared.Numbers.{Numbers}
-use Rattle.speed_exports.specs.Numbers.{numbersOf, newNumbers, listingNumbers, marksOf, FewRemoved, FewListed, LoadsBy, UnloadsBy, ListsBy}
+use Rattle.speed_exports.specs.Numbers.{numbersOf, newNumbers, listingNumbers, marksOf, LoadsBy, UnloadsBy, ListsBy}
 
 abbrev told : ℕ → ℕ → ℕ → Numbers
 told r v s = record { refusal = r; value = v; second = s }
@@ -91,45 +82,11 @@ unload-told a n m k e = rw (k, e)
 pub listing-told : (a : ListingAnswer) (n m : ℕ) → a ≡ listing.Count n → m ≡ n → told 0 m 0 ≡ listingNumbers a
 listing-told a n m k e = rw (k, e)
 
-pub removed-few : (a : UnloadAnswer) (n : ℕ) → FewRemoved a → a ≡ unload.Removed n → n ≤ documentLimit
-removed-few a n h k = h n k
+pub removed-few : (a : UnloadAnswer) (n : ℕ) → removedBy a ≤ documentLimit → a ≡ unload.Removed n → n ≤ documentLimit
+removed-few a n h k = rw k at h
 
-pub listed-few : (a : ListingAnswer) (n : ℕ) → FewListed a → a ≡ listing.Count n → n ≤ documentLimit
-listed-few a n h k = h n k
-
--- ---- counts
-
-few-docs : (run : List ℕ) → Valid run → length (docsIn run) ≤ documentLimit
-few-docs run v = let h : countIn run ≤ documentLimit = v .sound .count in rw (docs-length run) h
-
-unload-count : (x : Option Document) (n k : ℕ) (t : Table) → removed n ≡ answerIn (withDocument x (λ d. accept (removed k) t)) → n ≡ k
-unfolding withDocument
-unload-count none n k t e = clash cc
-unload-count (some d) n k t e = cc
-
-unload-answers : (s n : ℕ) (t : Table) → removed n ≡ answerTo (unloadOf s) t → n ≡ removedCount s (t .docs)
-unfolding answerTo outcome textsFit fittingOutcome refuseUnless
-unload-answers s n t e = unload-count (find s (t .docs)) n (removedCount s (t .docs)) _ e
-
-pub unload-few : (s : ℕ) (before after : List ℕ) (a : UnloadAnswer) → Valid before → Unloads (unloadOf s) before after a → FewRemoved a
-unload-few s before after a v u n k =
-    let e : n ≡ removedCount s (docsIn before) = unload-answers s n (view before) (rw k at (u .answer)) in
-    omega (arith, few-docs before v, count s (docsIn before))
-
-listing-count : (x : Option Document) (b : Bool) (n k : ℕ) (l m : List ℕ) (t : Table) → serials n l ≡ answerIn (withDocument x (λ d. refuseUnless Small b (accept (serials k m) t))) → n ≡ k
-unfolding withDocument refuseUnless
-listing-count none b n k l m t e = clash cc
-listing-count (some d) true n k l m t e = cc
-listing-count (some d) false n k l m t e = clash cc
-
-listing-answers : (s n : ℕ) (run after : List ℕ) (t : Table) → serials n after ≡ answerTo (listingOf s run) t → n ≡ length (serialsBeneath s (t .docs))
-unfolding answerTo outcome textsFit fittingOutcome refuseUnless
-listing-answers s n run after t e = listing-count (find s (t .docs)) (leb (length (serialsBeneath s (t .docs))) (length run)) n (length (serialsBeneath s (t .docs))) after (stored (serialsBeneath s (t .docs)) run) t e
-
-pub listing-few : (s : ℕ) (out before run after : List ℕ) (a : ListingAnswer) → Valid run → Lists (listingOf s out) run before after a → FewListed a
-listing-few s out before run after a v u n k =
-    let e : n ≡ length (serialsBeneath s (docsIn run)) = listing-answers s n out after (view run) (rw k at (u .answer)) in
-    omega (arith, few-docs run v, beneath-fewer s (docsIn run))
+pub listed-few : (a : ListingAnswer) (n : ℕ) → listedBy a ≤ documentLimit → a ≡ listing.Count n → n ≤ documentLimit
+listed-few a n h k = rw k at h
 
 -- ---- the calls
 

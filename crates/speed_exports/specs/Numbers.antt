@@ -1,10 +1,9 @@
 -- The answers of the calls on the table as three numbers, for C and Rust.
-use Prim.Native.Nat.{ℕ, _/_, _%_, _≤_}
+use Prim.Native.Nat.{ℕ, _/_, _%_}
 use mathlib.Core.Path.{_≡_}
 use mathlib.Core.List.{List}
 use lib.Dec.{eqb}
 use Rattle.ascii.specs.Bytes.{pick}
-use Rattle.limits.specs.Limits.{documentLimit}
 use Rattle.limits.specs.Refusals.{refusalNumber}
 use Rattle.decisions.specs.Decisions.{Decision}
 use Rattle.decisions.specs.Decisions.Decision.{disabled, enabled}
@@ -16,7 +15,6 @@ use Rattle.documents.specs.declared.NewAnswer.{NewAnswer}
 use Rattle.documents.specs.declared.NewAnswer.the-variants as made
 use Rattle.documents.specs.declared.LoadAnswer.{LoadAnswer}
 use Rattle.documents.specs.declared.UnloadAnswer.{UnloadAnswer}
-use Rattle.documents.specs.declared.UnloadAnswer.the-variants as unload
 use Rattle.documents.specs.declared.ListingAnswer.{ListingAnswer}
 use Rattle.documents.specs.declared.ListingAnswer.the-variants as listing
 use Rattle.speed_exports.specs.declared.Numbers.{Numbers}
@@ -48,13 +46,6 @@ listingNumbers (listing.Refused r) = numbersOf (refused (refusalNumber r))
 -- a frame's marks in one number: 1 for allowfullscreen plus 2 for a sandbox attribute
 abbrev pub marksOf : ℕ → FrameMarks
 marksOf m = record { allowfullscreen = eqb (m % 2) 1; «has_sandbox» = eqb (m / 2 % 2) 1 }
-
--- counts within the limit of documents
-abbrev pub FewRemoved : UnloadAnswer → Type 0
-FewRemoved a = (n : ℕ) → a ≡ unload.Removed n → n ≤ documentLimit
-
-abbrev pub FewListed : ListingAnswer → Type 0
-FewListed a = (n : ℕ) → a ≡ listing.Count n → n ≤ documentLimit
 
 -- the answer of the library behind the numbers of a call that writes, what it promises of the lent runs, and that the numbers are the model's
 pub record IsNewBy (before after : List ℕ) (r : Numbers) : Type 0 where

@@ -11,9 +11,9 @@ ghost use Rattle.settled.specs.Settled.{declaredIn};
 ghost use Rattle.document_model.specs.Model.{topLoad, framedLoad, unload, question, enabledFeatures, listing, forecastOf, refused, answerTo};
 ghost use Rattle.document_table.specs.Layout.{tableBytes, view};
 ghost use Rattle.document_loads.specs.Loads.{attributes};
-ghost use Rattle.documents.specs.Answers.{Valid, questionIn, featuresIn, loadIn, unloadIn};
+ghost use Rattle.documents.specs.Answers.{Valid, questionIn, featuresIn, loadIn, unloadIn, removedBy, listedBy};
 ghost use Rattle.speed_exports.specs.Codes.{tidyCode, settledCode, admissionCode, TidiedBy, SettledBy, isOwn, askedScheme, askedOrigin};
-ghost use Rattle.speed_exports.specs.Numbers.{numbersOf, newNumbers, listingNumbers, marksOf, FewRemoved, FewListed, IsNewBy, LoadsBy, UnloadsBy, ListsBy};
+ghost use Rattle.speed_exports.specs.Numbers.{numbersOf, newNumbers, listingNumbers, marksOf, IsNewBy, LoadsBy, UnloadsBy, ListsBy};
 use allowlists::Admission;
 use document_loads::FrameMarks;
 use documents::FeaturesAnswer;
@@ -201,7 +201,7 @@ fn narrow(n: usize) -> u32
 }
 
 fn unload_numbers(a: UnloadAnswer) -> Numbers
-    requires { ⌜ FewRemoved a ⌝ }
+    requires { ⌜ removedBy a ≤ documentLimit ⌝ }
     ensures { λ r. ⌜ r ≡ numbersOf (unloadIn a) ⌝ }
 {
     match a {
@@ -215,7 +215,7 @@ fn unload_numbers(a: UnloadAnswer) -> Numbers
 }
 
 fn listing_numbers(a: ListingAnswer) -> Numbers
-    requires { ⌜ FewListed a ⌝ }
+    requires { ⌜ listedBy a ≤ documentLimit ⌝ }
     ensures { λ r. ⌜ r ≡ listingNumbers a ⌝ }
 {
     match a {

@@ -1,4 +1,4 @@
--- The laws of texts put into a run, for the crates above, which open no definition of this crate. Assumes nothing.
+-- The laws of texts put into a run, for the crates above, which open no definition of this crate: here, and in Places (a text put at a place is read back, and elsewhere nothing changes). Assumes nothing.
 use mathlib.Core.Path.{_≡_, refl, ap, _∙_, sym}
 use Prim.Native.Nat.{ℕ, _+_, _/_, _%_, _≤_, _<_}
 use mathlib.Core.List.{List, [], _∷_, _++_}

@@ -74,7 +74,7 @@ const LENGTHS: [&str; 5] = [
     "5,000 or more refused with 4",
 ];
 
-/// So many expressions hardly fit into the 1,024 bytes of before.
+/// So many expressions fill most of the longest header.
 const CROWD: usize = 150;
 
 impl SizeCases {

@@ -1,5 +1,5 @@
 -- `speed_unload` is right: the numbers are the model's.
-use Rattle.speed_exports.proofs.Answers.{unload-few, unloads-by}
+use Rattle.speed_exports.proofs.Answers.{unloads-by}
 use borrow.Author.Needs.{needs}
 use Rattle.speed_exports.proofs.speed_unload.Statement.{statement}
 use Rattle.speed_exports.proofs.speed_unload.Tie as tie
@@ -9,6 +9,6 @@ speed-unload-spec =
     tie.close
     (tie.spec
     (λ c κs. search needs)
-    (λ c κs. search unload-few)
+    (λ c κs. search needs)
     (λ c. search needs)
     (λ c. search unloads-by))
