@@ -40,7 +40,7 @@ pub record Ends (run : List ℕ) (s : Session) (texts left before after : List �
   pub waits : (r .waiting ≡ 0 → ⊥) → r .waiting ≡ s .waiting + length (answerLine run texts s)
   pub line : (x : List ℕ) → readingIn x (r .line) ≡ newReading
 
--- a session in a lent run: one that is too short stays as it was, any other holds a table that calls left; which calls, is read
+-- a session in a lent run: one that is too short stays as it was, any other holds a table that calls left; which calls these are is read, and no contract can say it
 pub record Replayed (before after : List ℕ) : Type 0 where
   pub short : length before < tableBytes → after ≡ before
   pub valid : tableBytes ≤ length before → Valid after

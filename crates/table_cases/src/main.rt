@@ -84,6 +84,24 @@ fn foretell(name: &[u8], run: &[u8], has_sandbox: bool, sandbox: &[u8])
     tell_features(name, a);
 }
 
+fn frame_and_forecast(name: &[u8], run: &mut [u8], has_sandbox: bool, sandbox: &[u8])
+    requires { ⌜ Valid (now run) ⌝ }
+    ensures { λ _. ⌜ Valid (now (run .exit)) ⌝ }
+{
+    frame(name, run, has_sandbox, sandbox);
+    foretell(b"its forecast", run, has_sandbox, sandbox);
+}
+
+// A sandbox text of one byte too many, and one without that byte.
+fn long_texts(too_long: &[u8], longest: &[u8], run: &mut [u8], has_sandbox: bool)
+    requires { ⌜ Valid (now run) ⌝ }
+    ensures { λ _. ⌜ Valid (now (run .exit)) ⌝ }
+{
+    let text = [b'a'; 4097];
+    frame_and_forecast(too_long, run, has_sandbox, &text);
+    frame_and_forecast(longest, run, has_sandbox, &text[..4096]);
+}
+
 // A listing of what is beneath the first document, into a run of sevens.
 fn list(name: &[u8], run: &[u8], out: &mut [u32])
     requires { ⌜ Valid (now run) ⌝ }
@@ -96,32 +114,16 @@ fn frames(run: &mut [u8])
     requires { ⌜ Valid (now run) ⌝ }
     ensures { λ _. ⌜ Valid (now (run .exit)) ⌝ }
 {
-    let long = [b'a'; 4097];
     tell_load(
         b"a document at the top",
         documents::load_top(run, b"https://a.example", b""),
     );
-    frame(
+    long_texts(
         b"mark clear, sandbox text of 4,097 bytes",
-        run,
-        false,
-        &long,
-    );
-    foretell(b"its forecast", run, false, &long);
-}
-
-fn clear_frames(run: &mut [u8])
-    requires { ⌜ Valid (now run) ⌝ }
-    ensures { λ _. ⌜ Valid (now (run .exit)) ⌝ }
-{
-    let long = [b'a'; 4097];
-    frame(
         b"mark clear, sandbox text of 4,096 bytes",
         run,
         false,
-        &long[..4096],
     );
-    foretell(b"its forecast", run, false, &long[..4096]);
     foretell(
         b"mark clear, `allow-forms` not read: its forecast",
         run,
@@ -140,16 +142,12 @@ fn more_frames(run: &mut [u8])
     requires { ⌜ Valid (now run) ⌝ }
     ensures { λ _. ⌜ Valid (now (run .exit)) ⌝ }
 {
-    let long = [b'a'; 4097];
-    frame(b"mark set, sandbox text of 4,097 bytes", run, true, &long);
-    foretell(b"its forecast", run, true, &long);
-    frame(
+    long_texts(
+        b"mark set, sandbox text of 4,097 bytes",
         b"mark set, sandbox text of 4,096 bytes",
         run,
         true,
-        &long[..4096],
     );
-    foretell(b"its forecast", run, true, &long[..4096]);
     frame(
         b"mark clear, `allow-same-origin` not read",
         run,
@@ -220,7 +218,6 @@ fn session(name: &[u8], run: &mut [u8]) {
         NewAnswer::Ready => {
             tell(name, b"ready");
             frames(run);
-            clear_frames(run);
             more_frames(run);
             listings(run);
             last_keyword(run);
