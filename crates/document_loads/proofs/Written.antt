@@ -12,7 +12,7 @@ use Rattle.limits.specs.Limits.{textBytes, documentLimit}
 use Rattle.lent_bytes.specs.Numbers.{numberAt, bytesAt, numbersIn, numberBytes}
 use Rattle.lent_bytes.proofs.Laws.{put-long, number-of, number-below, number-above, part-here, part-below, part-above, part-put, with-append, bytes-append, number-bytes-long}
 use Rattle.features.specs.Features.{featureCount}
-use Rattle.origins.specs.Origins.{originOf}
+use Rattle.origins.specs.Origins.{Origin, originOf}
 use Rattle.origins.specs.Origins.Origin.{fresh}
 use Rattle.declarations.specs.Declarations.{declares}
 use Rattle.settled.specs.Settled.{declaredIn}
