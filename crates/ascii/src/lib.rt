@@ -6,6 +6,7 @@ ghost use Rattle.ascii.specs.Bytes.{isDigit, isUpper, isKeyStart, isKeyB
 ghost use Rattle.ascii.specs.Classes.{inClass};
 ghost use Rattle.ascii.specs.Texts.{sameBytes, sameLowered, fourSame, partOf};
 ghost use Rattle.ascii.specs.Places.{IsByte, IsRun};
+ghost use Rattle.ascii.specs.declared.Class.the-variants.{Space, Blank, Key};
 
 pub fn is_digit(b: u8) -> bool
     ensures { λ r. ⌜ r ≡ isDigit b ⌝ }
@@ -232,6 +233,49 @@ pub fn run_end(s: &[u8], at: usize, k: Class) -> usize
     let mut i = place(s, at);
     while i < s.len() {
         if in_class(k, s[i]) {
+            i += 1;
+        } else {
+            return i;
+        }
+    }
+    i
+}
+
+// `run_end` of three classes, which readers of headers ask for at every byte that could start a run: without the choice of a class.
+pub fn space_end(s: &[u8], at: usize) -> usize
+    ensures { λ r. ⌜ IsRun Space (now (s .entry)) at r ⌝ }
+{
+    let mut i = place(s, at);
+    while i < s.len() {
+        if in_class(Class::Space, s[i]) {
+            i += 1;
+        } else {
+            return i;
+        }
+    }
+    i
+}
+
+pub fn blank_end(s: &[u8], at: usize) -> usize
+    ensures { λ r. ⌜ IsRun Blank (now (s .entry)) at r ⌝ }
+{
+    let mut i = place(s, at);
+    while i < s.len() {
+        if in_class(Class::Blank, s[i]) {
+            i += 1;
+        } else {
+            return i;
+        }
+    }
+    i
+}
+
+pub fn key_end(s: &[u8], at: usize) -> usize
+    ensures { λ r. ⌜ IsRun Key (now (s .entry)) at r ⌝ }
+{
+    let mut i = place(s, at);
+    while i < s.len() {
+        if is_key_byte(s[i]) {
             i += 1;
         } else {
             return i;

@@ -7,7 +7,6 @@ ghost use Rattle.dictionaries.specs.Dictionaries.{innerTurn, innerOf, li
 ghost use Rattle.dictionaries.specs.Lookup.{isSome, foundOf, IsPointed, IsLast};
 ghost use Rattle.dictionaries.specs.Members.{IsNext};
 ghost use Rattle.dictionaries.specs.Steps.{endOf, newerOf, IsValue, IsMember};
-use ascii::Class;
 use ascii::Read;
 use ascii::TextRange;
 use ascii::Turn;
@@ -77,7 +76,7 @@ fn inner_turn(s: &[u8], at: usize) -> Turn
     requires { ⌜ at ≤ length (now s) ⌝ }
     ensures { λ r. ⌜ IsTurn (now (s .entry)) at r (innerTurn (drop at (now (s .entry)))) ⌝ }
 {
-    let i = ascii::run_end(s, at, Class::Space);
+    let i = ascii::space_end(s, at);
     if ascii::byte(s, i) == b')' {
         return Turn::Done(i + 1);
     }
@@ -117,7 +116,7 @@ fn inner(s: &[u8], at: usize) -> Read
 pub fn item_at(s: &[u8], cursor: usize) -> ListItem
     ensures { λ r. ⌜ IsPointed (now (s .entry)) cursor r ⌝ }
 {
-    let i = ascii::run_end(s, cursor, Class::Space);
+    let i = ascii::space_end(s, cursor);
     if ascii::byte(s, i) == b')' {
         return ListItem::End;
     }
@@ -258,7 +257,7 @@ fn parted(s: &[u8], at: usize) -> Turn
     requires { ⌜ at ≤ length (now s) ⌝ }
     ensures { λ r. ⌜ IsTurn (now (s .entry)) at r (partedBy (drop at (now (s .entry)))) ⌝ }
 {
-    let e = ascii::run_end(s, at, Class::Blank);
+    let e = ascii::blank_end(s, at);
     let n = e + 1;
     if s.len() < n {
         return Turn::Done(e);
@@ -266,7 +265,7 @@ fn parted(s: &[u8], at: usize) -> Turn
     if ascii::byte(s, e) != b',' {
         return Turn::Malformed;
     }
-    let q = ascii::run_end(s, n, Class::Blank);
+    let q = ascii::blank_end(s, n);
     if s.len() <= q {
         return Turn::Malformed; // a trailing comma
     }
@@ -277,7 +276,7 @@ fn parted(s: &[u8], at: usize) -> Turn
 pub fn next_member(s: &[u8], cursor: usize) -> NextMember
     ensures { λ r. ⌜ IsNext (now (s .entry)) cursor r ⌝ }
 {
-    let i = ascii::run_end(s, cursor, Class::Space);
+    let i = ascii::space_end(s, cursor);
     if s.len() <= i {
         return NextMember::End;
     }

@@ -45,7 +45,7 @@ pub fn key(s: &[u8], at: usize) -> Read
     if !ascii::is_key_start(s[at]) {
         return Read::Malformed;
     }
-    Read::At(ascii::run_end(s, at + 1, Class::Key))
+    Read::At(ascii::key_end(s, at + 1))
 }
 
 fn token(s: &[u8], at: usize) -> Read
@@ -259,7 +259,7 @@ fn param(s: &[u8], at: usize) -> Read
     requires { ⌜ at ≤ length (now s) ⌝ }
     ensures { λ r. ⌜ IsRead (now (s .entry)) at r (paramOf (drop at (now (s .entry)))) ⌝ }
 {
-    let k = ascii::run_end(s, at, Class::Space);
+    let k = ascii::space_end(s, at);
     match key(s, k) {
         Read::At(q) => {
             if ascii::byte(s, q) == b'=' {

@@ -2,6 +2,7 @@ pub mod Growing
 pub mod Forms
 pub mod Spellings
 pub mod Listing
+pub mod Indexing
 pub mod Members
 pub mod RoundTrip
 pub mod Answering

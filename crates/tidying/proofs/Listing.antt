@@ -24,7 +24,7 @@ use Rattle.settled.specs.declared.ExpressionFound.the-variants as found
 use Rattle.settled.proofs.Laws.{from-none}
 use Rattle.tidying.specs.Tidied.{among, unless, onceAfter, sourceItem}
 use Rattle.tidying.specs.Writing.{Adding}
-use Rattle.tidying.specs.Steps.{Spelling, sourceText, sourceTexts, newText}
+use Rattle.tidying.specs.Steps.{Spelling, sourceText, sourceTexts, newText, Passed}
 use Rattle.tidying.specs.declared.Added.{Added}
 use Rattle.tidying.proofs.Growing.{adding-on}
 use Rattle.tidying.proofs.Spellings.{spelling-none, spelling-one, spelling-on}
@@ -108,10 +108,6 @@ texts-more es e =
     none-before : among (normal e) (map normal es) || among (normal e) [] ≡ among (normal e) (map normal es)
     none-before = unfold among in or-false (among (normal e) (map normal es))
 
--- so many expressions from a place on, and where the next one stands
-pub record Passed (d : List ℕ) (first i p : ℕ) : Type 0 where
-  pub is : (k : ℕ) → expressionsFrom (i + k) (drop first d) ≡ expressionsFrom i (drop first d) ++ expressionsFrom k (drop p d)
-
 pub passed-start : (d : List ℕ) (first : ℕ) → Passed d first 0 first
 passed-start d first = record { is = λ k. rw (zero-add k, from-none (drop first d)) }
 
@@ -123,7 +119,7 @@ module _ (d : List ℕ) (first i p : ℕ) (g : Passed d first i p) (r : Expressi
         let f : expressionsFrom (suc j) (drop p d) ≡ settledIn d e ∷ expressionsFrom j (drop (e .to) d) = rw k at (a .says j) in
         rw z (g .is (suc j) ∙ ap (λ (es : List SourceExpression). expressionsFrom i (drop first d) ++ es) f)
 
-    one-more : expressionsFrom (i + 1) (drop first d) ≡ expressionsFrom i (drop first d) ++ (settledIn d e ∷ [])
+    pub one-more : expressionsFrom (i + 1) (drop first d) ≡ expressionsFrom i (drop first d) ++ (settledIn d e ∷ [])
     one-more = let z : i + 1 + 0 ≡ i + 1 = omega arith in rw (z, from-none (drop (e .to) d)) at (said 0)
 
     pub passed-on : Passed d first (i + 1) (e .to)

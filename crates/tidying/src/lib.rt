@@ -2,7 +2,8 @@
 ghost use mathlib.Core.Path.{_≡_};
 ghost use mathlib.Core.List.{[], _∷_, _++_, map};
 ghost use mathlib.Core.Bool.{false};
-ghost use lib.ListN.{length, drop};
+ghost use lib.ListN.{length, drop, set};
+ghost use Prim.Native.Nat.{_≤_};
 ghost use Rattle.limits.specs.Limits.{textBytes};
 ghost use Rattle.ascii.specs.Bytes.{pick};
 ghost use Rattle.ascii.specs.Literals.{text};
@@ -16,7 +17,8 @@ ghost use Rattle.settled.specs.Settled.{expressionsFrom, declaredIn};
 ghost use Rattle.tidying.specs.Tidied.{among, selfItem, tidyValue, withMember, tidyMembers};
 ghost use Rattle.tidying.specs.Writing.{Adding};
 ghost use Rattle.tidying.specs.Answers.{IsTidied};
-ghost use Rattle.tidying.specs.Steps.{Spelling, sourceText, sourceTexts, newText};
+ghost use Rattle.tidying.specs.Steps.{Spelling, sourceText, sourceTexts, newText, Indexed};
+ghost use Rattle.hashes.specs.Hashes.{hashOf};
 use limits::Refusal;
 use limits::TEXT_BYTES;
 use origins::ExpressionParts;
@@ -34,6 +36,9 @@ pub enum TidyAnswer {
     Length(usize),
     Refused(Refusal),
 }
+
+// The index of a list keeps the hashes and places of so many expressions, more than a header within the limit has: the shortest, `"http:"` and a space, takes eight bytes.
+const INDEXED: usize = TEXT_BYTES / 8;
 
 // Where a text ends that was written, and whether a text stands before the next one.
 struct Added {
@@ -152,6 +157,55 @@ fn seen(d: &[u8], first: usize, count: usize, e: ExpressionParts, h: &[u8]) -> b
     false
 }
 
+fn wide(x: u16) -> usize
+    ensures { λ r. ⌜ r ≡ x ⌝ }
+{
+    x as usize
+}
+
+// The same of an expression with the hash `x`: those with another hash in the index aren't compared.
+fn listed(
+    d: &[u8],
+    first: usize,
+    count: usize,
+    hashes: &[u16],
+    places: &[u16],
+    x: u16,
+    e: ExpressionParts,
+    h: &[u8],
+) -> bool
+    requires { ⌜ Indexed (now d) first count (now hashes) (now places) × (x ≡ hashOf (normal (expressionBy e (now h)))) ⌝ }
+    ensures { λ r. ⌜ r ≡ among (normal (expressionBy e (now (h .entry)))) (map normal (expressionsFrom count (drop first (now (d .entry))))) ⌝ }
+{
+    if hashes.len() < count {
+        return seen(d, first, count, e, h);
+    }
+    let j = hashes::first_place(&hashes[..count], x);
+    if count <= j {
+        return false;
+    }
+    if places.len() <= j {
+        return seen(d, first, count, e, h);
+    }
+    seen(d, wide(places[j]), count - j, e, h)
+}
+
+fn narrow(n: usize) -> u16
+    requires { ⌜ n ≤ 65535 ⌝ }
+    ensures { λ r. ⌜ r ≡ n ⌝ }
+{
+    n as u16
+}
+
+// Keeps a number at a place, where there is room.
+fn keep(numbers: &mut [u16], i: usize, x: u16)
+    ensures { λ _. ⌜ now (numbers .exit) ≡ set (now (numbers .entry)) i x ⌝ }
+{
+    if i < numbers.len() {
+        numbers[i] = x;
+    }
+}
+
 // Adds the normal form of an expression as a string.
 fn add_string(buf: &mut [u8], at: usize, any: bool, e: ExpressionParts, h: &[u8]) -> Added
     requires { ⌜ length (now buf) ≡ textBytes ⌝ }
@@ -164,42 +218,59 @@ fn add_string(buf: &mut [u8], at: usize, any: bool, e: ExpressionParts, h: &[u8]
     Added { to, any: true }
 }
 
-// Adds an expression, unless one of so many before it has its normal form.
+// Adds an expression, which stands at the place `p`, unless one of so many before it has its normal form; and puts it into the index.
 fn add_source(
     d: &[u8],
     first: usize,
     count: usize,
+    hashes: &mut [u16],
+    places: &mut [u16],
+    p: usize,
     e: ExpressionParts,
     h: &[u8],
     buf: &mut [u8],
     at: usize,
     any: bool,
 ) -> Added
-    requires { ⌜ length (now buf) ≡ textBytes ⌝ }
-    ensures { λ r. ⌜ Spelling (text " ") (now (buf .entry)) at any (newText (expressionsFrom count (drop first (now (d .entry)))) (expressionBy e (now (h .entry)))) (now (buf .exit)) r ⌝ }
+    requires { ⌜ (length (now buf) ≡ textBytes) × (p ≤ 65535) × Indexed (now d) first count (now hashes) (now places) ⌝ }
+    ensures { λ r. ⌜ Spelling (text " ") (now (buf .entry)) at any (newText (expressionsFrom count (drop first (now (d .entry)))) (expressionBy e (now (h .entry)))) (now (buf .exit)) r × (now (hashes .exit) ≡ set (now (hashes .entry)) count (hashOf (normal (expressionBy e (now (h .entry)))))) × (now (places .exit) ≡ set (now (places .entry)) count p) ⌝ }
 {
-    if seen(d, first, count, e, h) {
+    let x = hashes::hash(e, h);
+    let old = listed(d, first, count, hashes, places, x, e, h);
+    keep(hashes, count, x);
+    keep(places, count, narrow(p));
+    if old {
         return Added { to: at, any };
     }
     add_string(buf, at, any, e, h)
 }
 
 // Adds so many expressions from a place on, each once.
-fn add_sources(d: &[u8], first: usize, count: usize, buf: &mut [u8], at: usize, any: bool) -> Added
-    requires { ⌜ length (now buf) ≡ textBytes ⌝ }
+fn add_sources(
+    d: &[u8],
+    first: usize,
+    count: usize,
+    hashes: &mut [u16],
+    places: &mut [u16],
+    buf: &mut [u8],
+    at: usize,
+    any: bool,
+) -> Added
+    requires { ⌜ (length (now buf) ≡ textBytes) × (length (now d) ≤ 65535) ⌝ }
     ensures { λ r. ⌜ Spelling (text " ") (now (buf .entry)) at any (sourceTexts (expressionsFrom count (drop first (now (d .entry))))) (now (buf .exit)) r ⌝ }
 {
     let mut p = first;
     let mut i: usize = 0;
     let mut n = Added { to: at, any };
     while i < count {
+        let next = i + 1;
         match settled::expression_at(d, p) {
             ExpressionFound::Expression(e) => {
                 let parts = e.parts;
                 let h = ascii::part(d, e.from, e.to);
-                n = add_source(d, first, i, parts, h, buf, n.to, n.any);
+                n = add_source(d, first, i, hashes, places, p, parts, h, buf, n.to, n.any);
                 p = e.to;
-                i += 1;
+                i = next;
             }
             ExpressionFound::None => return n,
         }
@@ -221,13 +292,20 @@ fn add_self(buf: &mut [u8], at: usize, any: bool, own: bool) -> Added
 }
 
 // Adds an allowlist without `*`, an inner list.
-fn add_list(d: &[u8], l: ListRange, buf: &mut [u8], at: usize) -> usize
-    requires { ⌜ length (now buf) ≡ textBytes ⌝ }
+fn add_list(
+    d: &[u8],
+    l: ListRange,
+    hashes: &mut [u16],
+    places: &mut [u16],
+    buf: &mut [u8],
+    at: usize,
+) -> usize
+    requires { ⌜ (length (now buf) ≡ textBytes) × (length (now d) ≤ 65535) ⌝ }
     ensures { λ r. ⌜ Adding (now (buf .entry)) at (valueText (tidyValue (listed (l .own) false (expressionsFrom (l .count) (drop (l .at) (now (d .entry))))))) (now (buf .exit)) r ⌝ }
 {
     let a = add(buf, at, b"(");
     let m = add_self(buf, a, false, l.own);
-    let n = add_sources(d, l.at, l.count, buf, m.to, m.any);
+    let n = add_sources(d, l.at, l.count, hashes, places, buf, m.to, m.any);
     add(buf, n.to, b")")
 }
 
@@ -245,8 +323,16 @@ fn add_key(buf: &mut [u8], at: usize, any: bool, n: u32) -> usize
 }
 
 // Adds the member of a feature, if it is declared.
-fn add_member(d: &[u8], n: u32, buf: &mut [u8], at: usize, any: bool) -> Added
-    requires { ⌜ length (now buf) ≡ textBytes ⌝ }
+fn add_member(
+    d: &[u8],
+    n: u32,
+    hashes: &mut [u16],
+    places: &mut [u16],
+    buf: &mut [u8],
+    at: usize,
+    any: bool,
+) -> Added
+    requires { ⌜ (length (now buf) ≡ textBytes) × (length (now d) ≤ 65535) ⌝ }
     ensures { λ r. ⌜ Spelling (text ", ") (now (buf .entry)) at any (map memberText (withMember n (declaredIn (now (d .entry)) n) [])) (now (buf .exit)) r ⌝ }
 {
     match settled::list_of(d, n) {
@@ -258,7 +344,7 @@ fn add_member(d: &[u8], n: u32, buf: &mut [u8], at: usize, any: bool) -> Added
         }
         ListFound::Listed(l) => {
             let a = add_key(buf, at, any, n);
-            let to = add_list(d, l, buf, a);
+            let to = add_list(d, l, hashes, places, buf, a);
             Added { to, any: true }
         }
     }
@@ -266,13 +352,15 @@ fn add_member(d: &[u8], n: u32, buf: &mut [u8], at: usize, any: bool) -> Added
 
 // Adds what settled bytes declare, feature by feature.
 fn fill(d: &[u8], buf: &mut [u8]) -> usize
-    requires { ⌜ length (now buf) ≡ textBytes ⌝ }
+    requires { ⌜ (length (now buf) ≡ textBytes) × (length (now d) ≤ 65535) ⌝ }
     ensures { λ r. ⌜ Adding (now (buf .entry)) 0 (written (tidyMembers (declaredIn (now (d .entry))))) (now (buf .exit)) r ⌝ }
 {
+    let mut hashes = [0u16; INDEXED];
+    let mut places = [0u16; INDEXED];
     let mut n = Added { to: 0, any: false };
     let mut i: u32 = 0;
     while i < features::COUNT as u32 {
-        n = add_member(d, i, buf, n.to, n.any);
+        n = add_member(d, i, &mut hashes, &mut places, buf, n.to, n.any);
         i += 1;
     }
     n.to

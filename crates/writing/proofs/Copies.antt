@@ -1,6 +1,6 @@
 -- A text put into a run byte by byte: what the code's loop knows. Assumes nothing.
 use mathlib.Core.Path.{_≡_, refl, _∙_}
-use Prim.Native.Nat.{ℕ, suc, _+_, _≤_, _<_}
+use Prim.Native.Nat.{ℕ, suc, _+_, _-_, _≤_, _<_, min}
 use mathlib.Core.List.{List, [], _∷_}
 use native.Mathlib.Omega.{arith}
 use native.Mathlib.Numerals.{add-one}
@@ -18,21 +18,25 @@ out-of-run (x ∷ t) l at h = rw (set-out l at x h) (out-of-run t l (suc at) (om
 pub far-out : (t l : List ℕ) (at : ℕ) → length l < at → l ≡ withText l at t
 far-out t l at h = out-of-run t l at (omega arith)
 
--- what is left to store, from the next place on: at the start, after one byte more, and at the end
-pub copy-start : (l : List ℕ) (at : ℕ) (t : List ℕ) → withText l at (drop 0 t) ≡ withText l at t
-copy-start l at t = refl
+-- what is left to store after so many bytes: at the start, after one byte more, at the text's end and at the run's
+pub copy-start : (l : List ℕ) (at : ℕ) (t : List ℕ) → withText l (at + 0) (drop 0 t) ≡ withText l at t
+copy-start l at t = let z : at + 0 ≡ at = omega arith in rw z refl
 
-module _ (m : List ℕ) (o j : ℕ) (t w : List ℕ) (e : withText m o (drop j t) ≡ w) where
-  pub copy-more : j < length t → withText (set m o (getD t j 0)) (o + 1) (drop (j + 1) t) ≡ w
+-- `n`: how many bytes are stored in all
+module _ (m : List ℕ) (at j : ℕ) (t w : List ℕ) (e : withText m (at + j) (drop j t) ≡ w) (n room : ℕ) (least : n ≡ min (length t) room) where
+  pub copy-more : j < n → withText (set m (at + j) (getD t j 0)) (at + (j + 1)) (drop (j + 1) t) ≡ w
   unfolding withText
-  copy-more h = rw (add-one o, add-one j) (rw (drop-cons t j 0 h) at e)
+  copy-more h =
+      let z : at + (j + 1) ≡ suc (at + j) = omega arith in
+      let k : j < length t = omega arith in
+      rw (z, add-one j) (rw (drop-cons t j 0 k) at e)
 
-  pub copy-all : length t ≤ j → m ≡ w
+  pub copy-all : n ≤ j → length t ≤ n → m ≡ w
   unfolding withText
-  copy-all h = rw (drop-of-length-le t h) at e
+  copy-all h k = let z : length t ≤ j = omega arith in rw (drop-of-length-le t z) at e
 
-  pub copy-full : length m ≤ o → m ≡ w
-  copy-full h = out-of-run (drop j t) m o h ∙ e
+  pub copy-full : (l : List ℕ) → room ≡ length l - at → length m ≡ length l → n ≤ j → n < length t → m ≡ w
+  copy-full l r g h k = out-of-run (drop j t) m (at + j) (omega arith) ∙ e
 
 pub one-byte : (l : List ℕ) (at x : ℕ) → set l at x ≡ withText l at (x ∷ [])
 unfolding withText

@@ -1,7 +1,15 @@
 // Texts put into a lent run of bytes, from a place on.
+ghost use mathlib.Core.Path.{_≡_};
 ghost use mathlib.Core.List.{[], _∷_};
+ghost use Prim.Native.Nat.{min};
 ghost use Rattle.ascii.specs.Decimals.{decimalText};
 ghost use Rattle.writing.specs.Writing.{Puts};
+
+fn least(a: usize, b: usize) -> usize
+    ensures { λ r. ⌜ r ≡ min a b ⌝ }
+{
+    if a < b { a } else { b }
+}
 
 // Puts a text at a place: as much of it as the run has room for.
 pub fn put(run: &mut [u8], at: usize, t: &[u8]) -> usize
@@ -10,17 +18,13 @@ pub fn put(run: &mut [u8], at: usize, t: &[u8]) -> usize
     if run.len() < at {
         return run.len() + 1;
     }
-    let mut o = at;
+    let n = least(t.len(), run.len() - at);
     let mut j: usize = 0;
-    while j < t.len() {
-        if run.len() <= o {
-            return run.len() + 1;
-        }
-        run[o] = t[j];
-        o += 1;
+    while j < n {
+        run[at + j] = t[j];
         j += 1;
     }
-    o
+    if n < t.len() { run.len() + 1 } else { at + n }
 }
 
 // Puts one byte.

@@ -21,4 +21,6 @@ add-member-spec =
     (λ c. search needs)
     (λ c. search member-all)
     (λ c. search needs)
+    (λ c. search needs)
+    (λ c. search needs)
     (λ c. search member-list))

@@ -9,10 +9,10 @@ use Rattle.writing.proofs.put.Statement.{statement}
 use Rattle.writing.proofs.put.Tie as tie
 
 abbrev Inv-loop : tie.InvT-loop
-Inv-loop run₀ at t o₀ j₀ run o j = (o ≡ at + j) × (j ≤ length t) × (o ≤ length run₀) × (length run ≡ length run₀) × (withText run o (drop j t) ≡ withText run₀ at t)
+Inv-loop run₀ at t n j₀ run j = (j ≤ n) × (length run ≡ length run₀) × (withText run (at + j) (drop j t) ≡ withText run₀ at t)
 
 abbrev μ-loop : tie.MeasureT-loop
-μ-loop run₀ at t o₀ j₀ run o j = length t - j
+μ-loop run₀ at t n j₀ run j = n - j
 
 pub put-spec : {M : Type 1} → statement M
 put-spec =
@@ -22,15 +22,18 @@ put-spec =
     μ-loop
     (λ c. search needs)
     (λ c. record { run = search copies; to = search needs })
+    (λ c. search needs)
+    (λ c κs. search needs)
     (λ c. search copies)
+    (λ c. search needs)
+    (λ c. search needs)
+    (λ c. search needs)
+    (λ c. search needs)
+    (λ c. search needs)
+    (λ c. search copies)
+    (λ c. search needs)
     (λ c. search needs)
     (λ c. search needs)
     (λ c. record { run = search copies; to = search needs })
-    (λ c. search needs)
-    (λ c. search needs)
-    (λ c. search needs)
-    (λ c. search needs)
-    (λ c. search needs)
-    (λ c. search copies)
     (λ c. search needs)
     (λ c. record { run = search copies; to = search needs }))
