@@ -32,6 +32,33 @@ fn list(bytes: usize) -> Vec<u8> {
     t.into_bytes()
 }
 
+/// Headers that ask for more than most, each as long as fits into 4,096 bytes.
+fn odd(kind: &str) -> Vec<u8> {
+    const LETTERS: &[u8] = b"abcdefghijklmnopqrstuvwxyz0123456789";
+    let letter = |i: usize| LETTERS[i % 36] as char;
+    let many = |open: &str, close: &str, between: &str, item: &dyn Fn(usize) -> String| {
+        let mut t = open.to_string();
+        for i in 0.. {
+            let next = format!("{}{}", if i > 0 { between } else { "" }, item(i));
+            if t.len() + next.len() + close.len() > 4096 { break; }
+            t += &next;
+        }
+        (t + close).into_bytes()
+    };
+    let listed = |item: &dyn Fn(usize) -> String| many("camera=(", ")", " ", item);
+    match kind {
+        "ports" => listed(&|i| format!("\"https://maker.example:{}\"", 8000 + i)),
+        "twice" => listed(&|i| format!("\"https://a{}.example\"", i % 93)),
+        "last" => listed(&|i| format!("\"https://a{}.example\"", i.min(92))),
+        "short" => listed(&|i| if i < 36 { format!("\"http://{}\"", letter(i)) } else { format!("\"http://{}{}\"", letter(i), letter(i / 36)) }),
+        "schemes" => listed(&|i| (if i % 2 == 0 { "\"http:\"" } else { "\"https:\"" }).to_string()),
+        "stars" => many("", "", ",", &|_| "camera=*".to_string()),
+        "empty" => many("", "", ",", &|_| "usb=()".to_string()),
+        "keys" => many("", "", ",", &|_| "a".to_string()),
+        _ => panic!("no such header"),
+    }
+}
+
 /// 64 documents with such a header, all at the top or each in a frame of the one before.
 fn loaded(bytes: usize, chain: bool) -> Vec<u8> {
     let h = header(bytes);
@@ -101,7 +128,8 @@ fn main() {
         Some("stack") => stack::main(),
         Some("header") => std::io::stdout().write_all(&header(number(2, 0))).unwrap(),
         Some("bytes") => println!("{}", proved::table_bytes()),
+        Some("odd") => std::io::stdout().write_all(&odd(args.get(2).map_or("", String::as_str))).unwrap(),
         Some("list") => std::io::stdout().write_all(&list(number(2, 0))).unwrap(),
-        _ => { eprintln!("usage: table questions [SEED [ROUNDS [KIND]]] | unload | load [TIMES] <HEADER | tidy [TIMES] <HEADER | header BYTES | list BYTES | bytes | stack"); std::process::exit(2); }
+        _ => { eprintln!("usage: table questions [SEED [ROUNDS [KIND]]] | unload | load [TIMES] <HEADER | tidy [TIMES] <HEADER | header BYTES | list BYTES | odd KIND | bytes | stack"); std::process::exit(2); }
     }
 }

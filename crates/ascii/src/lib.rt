@@ -2,11 +2,24 @@
 ghost use mathlib.Core.Path.{_≡_};
 ghost use Prim.Native.Nat.{_+_, _≤_, min};
 ghost use lib.ListN.{length, drop};
-ghost use Rattle.ascii.specs.Bytes.{isDigit, isUpper, isKeyStart, isKeyByte, isTokenStart, isTokenByte, isBase64, isText, isLabelByte, isWhite, lower};
+ghost use Rattle.ascii.specs.Bytes.{isSpace, isBlank, isDigit, isUpper, isKeyStart, isKeyByte, isTokenStart, isTokenByte, isBase64, isText, isLabelByte, isWhite, lower};
 ghost use Rattle.ascii.specs.Classes.{inClass};
 ghost use Rattle.ascii.specs.Texts.{sameBytes, sameLowered, fourSame, partOf};
 ghost use Rattle.ascii.specs.Places.{IsByte, IsRun};
-ghost use Rattle.ascii.specs.declared.Class.the-variants.{Space, Blank, Key};
+ghost use Rattle.ascii.specs.declared.Class.the-variants.{Space, Blank, Key, Token};
+
+pub fn is_space(b: u8) -> bool
+    ensures { λ r. ⌜ r ≡ isSpace b ⌝ }
+{
+    b == b' '
+}
+
+// RFC 8941's OWS: space and tab.
+pub fn is_blank(b: u8) -> bool
+    ensures { λ r. ⌜ r ≡ isBlank b ⌝ }
+{
+    (b == b' ') | (b == b'\t')
+}
 
 pub fn is_digit(b: u8) -> bool
     ensures { λ r. ⌜ r ≡ isDigit b ⌝ }
@@ -101,7 +114,7 @@ pub fn lower(b: u8) -> u8
 pub enum Class {
     // the space
     Space,
-    // space and tab: RFC 8941's OWS
+    // space and tab
     Blank,
     // the five bytes that part the words of an attribute
     White,
@@ -121,8 +134,8 @@ pub fn in_class(k: Class, b: u8) -> bool
     ensures { λ r. ⌜ r ≡ inClass k b ⌝ }
 {
     match k {
-        Class::Space => b == b' ',
-        Class::Blank => (b == b' ') | (b == b'\t'),
+        Class::Space => is_space(b),
+        Class::Blank => is_blank(b),
         Class::White => is_white(b),
         Class::Word => !is_white(b),
         Class::Digit => is_digit(b),
@@ -241,13 +254,13 @@ pub fn run_end(s: &[u8], at: usize, k: Class) -> usize
     i
 }
 
-// `run_end` of three classes, which readers of headers ask for at every byte that could start a run: without the choice of a class.
+// `run_end` of four classes, which readers of headers ask for at every byte that could start a run: without the choice of a class.
 pub fn space_end(s: &[u8], at: usize) -> usize
     ensures { λ r. ⌜ IsRun Space (now (s .entry)) at r ⌝ }
 {
     let mut i = place(s, at);
     while i < s.len() {
-        if in_class(Class::Space, s[i]) {
+        if is_space(s[i]) {
             i += 1;
         } else {
             return i;
@@ -261,7 +274,7 @@ pub fn blank_end(s: &[u8], at: usize) -> usize
 {
     let mut i = place(s, at);
     while i < s.len() {
-        if in_class(Class::Blank, s[i]) {
+        if is_blank(s[i]) {
             i += 1;
         } else {
             return i;
@@ -276,6 +289,20 @@ pub fn key_end(s: &[u8], at: usize) -> usize
     let mut i = place(s, at);
     while i < s.len() {
         if is_key_byte(s[i]) {
+            i += 1;
+        } else {
+            return i;
+        }
+    }
+    i
+}
+
+pub fn token_end(s: &[u8], at: usize) -> usize
+    ensures { λ r. ⌜ IsRun Token (now (s .entry)) at r ⌝ }
+{
+    let mut i = place(s, at);
+    while i < s.len() {
+        if is_token_byte(s[i]) {
             i += 1;
         } else {
             return i;

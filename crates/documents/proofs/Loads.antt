@@ -6,7 +6,8 @@ use native.Mathlib.Numerals.{add-one}
 use mathlib.Core.List.{List, [], _∷_, _++_}
 use mathlib.Core.Bool.{Bool, true, false, not}
 use lib.ListN.{length}
-use borrow.Author.Tests.{le-leb, lt-leb}
+use lib.Dec.{leb}
+use borrow.Author.Tests.{le-leb, lt-leb, leb-true, leb-false}
 use Rattle.ascii.proofs.Clash.{clash}
 use Rattle.limits.specs.Limits.{textBytes, documentLimit, lastSerial}
 use Rattle.limits.specs.declared.Refusal.{Refusal}
@@ -41,20 +42,23 @@ module _ (t : List ℕ) (n : ℕ) (counted : n ≡ countIn t) where
   many : length (docsIn t) ≡ countIn t
   many = docs-length t
 
-  pub room-full : documentLimit ≤ n → IsRoom t (room.Refused Full)
-  room-full h =
-      let le : documentLimit ≤ length (docsIn t) = omega (arith, many) in
+  pub room-full : (b : Bool) → b ≡ leb documentLimit n → b ≡ true → IsRoom t (room.Refused Full)
+  room-full b f g =
+      let le : documentLimit ≤ length (docsIn t) = omega (arith, many, leb-true documentLimit n (sym f ∙ g)) in
       record { none = λ x e m d i. (let q : Full ≡ x = cc in load-full (view t) m d i le ∙ ap refuse q); serial = λ s e. clash cc }
 
-  module _ (h : n < documentLimit) (last : ℕ) (is : last ≡ lastIn t) where
+  module _ (b : Bool) (f : b ≡ leb documentLimit n) (g : b ≡ false) (last : ℕ) (is : last ≡ lastIn t) where
+    below : n < documentLimit
+    below = leb-false documentLimit n (sym f ∙ g)
+
     pub room-spent : lastSerial ≤ last → IsRoom t (room.Refused Spent)
     room-spent k =
-        let lt : length (docsIn t) < documentLimit = omega (arith, many) in
+        let lt : length (docsIn t) < documentLimit = omega (arith, many, below) in
         let less : lastSerial < suc (lastIn t) = omega arith in
         record { none = λ x e m d i. (let q : Spent ≡ x = cc in load-spent (view t) m d i lt less ∙ ap refuse q); serial = λ s e. clash cc }
 
     pub room-serial : last < lastSerial → IsRoom t (room.Serial (last + 1))
-    room-serial k = record { none = λ x e m d i. clash cc; serial = λ s e. (let w : last + 1 ≡ s = cc in (sym w ∙ (add-one last ∙ ap suc is), omega arith, omega arith)) }
+    room-serial k = record { none = λ x e m d i. clash cc; serial = λ s e. (let w : last + 1 ≡ s = cc in (sym w ∙ (add-one last ∙ ap suc is), omega (arith, below), omega arith)) }
 
 -- ---- loads
 

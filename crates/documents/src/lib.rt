@@ -2,6 +2,7 @@
 ghost use mathlib.Core.Path.{_≡_};
 ghost use Prim.Native.Nat.{_≤_, _<_};
 ghost use lib.ListN.{length, take};
+ghost use lib.Dec.{leb};
 ghost use Rattle.limits.specs.Limits.{textBytes, documentLimit};
 ghost use Rattle.features.specs.Features.{featureCount};
 ghost use Rattle.origins.specs.Origins.{originOf};
@@ -309,13 +310,20 @@ fn is_bad_at_top(said: OriginText) -> bool
     }
 }
 
+// Refusal 6: "a load, while 64 are loaded".
+fn is_full(n: usize) -> bool
+    ensures { λ r. ⌜ r ≡ leb documentLimit n ⌝ }
+{
+    DOCUMENTS <= n
+}
+
 // Room and a serial for a load.
 fn room_for_one(run: &[u8]) -> Room
     requires { ⌜ Sound (now run) ⌝ }
     ensures { λ r. ⌜ IsRoom (now (run .entry)) r ⌝ }
 {
     let n = document_table::count(run);
-    if DOCUMENTS <= n {
+    if is_full(n) {
         return Room::Refused(Refusal::Full);
     }
     let last = document_table::last(run);

@@ -1,5 +1,6 @@
-// The examples of RFC 8941's grammar and document 01's header rows, read by the library: one line for each.
+// The examples of RFC 8941's grammar and document 01's header rows, read by the library. Each line of standard input is a case.
 use allowlists::Admission;
+use ascii::Class;
 use ascii::TextRange;
 use dictionaries::ListItem;
 use dictionaries::MemberFound;
@@ -87,106 +88,6 @@ fn show(s: &[u8], key: &[u8]) {
     put(b"\n");
 }
 
-// Dictionaries.
-fn good_1() {
-    tell(b"");
-    tell(b"  ");
-    tell(b"a");
-    tell(b"a;x;y=1");
-    tell(b"a=(1 2.5 \"x\" tok :YQ==: ?1);p=x");
-    tell(b"a=1 ,\tb=2");
-    tell(b"  a  ");
-    tell(b"a\t");
-    tell(b"a=-0");
-    tell(b"a=()");
-    tell(b"a=( )");
-    tell(b"*k=*");
-}
-
-// Dictionaries.
-fn good_2() {
-    tell(b"*=1");
-    tell(b"a=( a  b )");
-    tell(b"a=::");
-    tell(b"a=(1;x 2;y);z");
-    tell(b"camera=(), camera=1");
-    tell(b"camera=(\"junk\")");
-    tell(b"a=1;  x");
-    tell(b"a=123456789012345");
-    tell(b"a=123456789012.123");
-}
-
-// Texts that are none.
-fn bad_1() {
-    tell(b"A");
-    tell(b"a =1");
-    tell(b"a= 1");
-    tell(b"a,");
-    tell(b",a");
-    tell(b"a=1,,b");
-    tell(b"a=(1");
-    tell(b"a=(1,2)");
-    tell(b"a=1 ;x");
-    tell(b"a=1;X");
-    tell(b"a=1;x=(2)");
-    tell(b"a=\"\xc3\xa9\"");
-}
-
-// Texts that are none.
-fn bad_2() {
-    tell(b"a=\"\\n\"");
-    tell(b"a=\"\\x\"");
-    tell(b"a='b'");
-    tell(b"a=1.");
-    tell(b"a=1.1234");
-    tell(b"a=1234567890123456");
-    tell(b"a=1234567890123.1");
-    tell(b"a=:*:");
-    tell(b"a=:YQ==");
-    tell(b"a=?2");
-    tell(b"\ta");
-    tell(b"\t");
-}
-
-// Texts that are none.
-fn bad_3() {
-    tell(b"a b");
-    tell(b"camera=(self), ");
-    tell(b"Camera=()");
-    tell(b"camera=(self");
-    tell(b"camera=(\tself)");
-    tell(b"a=(1\t2)");
-    tell(b"a=1;\tx");
-    tell(b"a=(b;c= 1)");
-    tell(b"a=\"b");
-    tell(b"a=(b)c");
-    tell(b"a=1\n");
-}
-
-// Members and their items.
-fn looks_1() {
-    show(b"camera=(), camera=1", b"camera");
-    show(b"camera=1, camera=()", b"camera");
-    show(b"camera=(\"junk\")", b"camera");
-    show(b"camera=*;a;b=2, usb=self", b"camera");
-    show(b"camera=*;a;b=2, usb=self", b"usb");
-    show(b"camera=*;a;b=2, usb=self", b"forms");
-    show(b"camera;report-to=\"x\"", b"camera");
-    show(
-        b"a=( self;q=1  \"https://b.example\" 2.5 \"\\\"\" );p;q",
-        b"a",
-    );
-    show(b"a=(b), aa=c, a=d", b"a");
-    show(b"a=(b), aa=c, a=d", b"aa");
-    show(b"a=(b), aa=c,", b"aa");
-    show(b"", b"a");
-}
-
-// Members and their items.
-fn looks_2() {
-    show(b"a=1", b"");
-}
-
 // Whether the list that settled bytes say for camera, feature 0, admits an origin, for a document at https://a.example.
 fn ask(d: &[u8], text: &[u8], o: OriginRange) {
     let same = ascii::same(text, b"https://a.example");
@@ -240,41 +141,35 @@ fn camera(s: &[u8]) {
     }
 }
 
-// Document 01's rows about headers, and its slips.
-fn declared_1() {
-    camera(b"");
-    camera(b"camera=(), camera=1");
-    camera(b"camera=(\"junk\")");
-    camera(b"camera=(self), ");
-    camera(b"Camera=()");
-    camera(b"camera=(self");
-    camera(b"camera=(self\tself)");
-    camera(b"camera=self, foo=\"\\n\"");
-    camera(b"camera=*");
-    camera(b"camera=self");
+// A kind is told by its first letter: `is` a text a dictionary, the last member `of` a key in a text, what a header declares for `camera`.
+fn case(line: &[u8]) {
+    let e = ascii::run_end(line, 0, Class::Not(b'|'));
+    let rest = ascii::part(line, ascii::place(line, e + 1), line.len());
+    match ascii::byte(line, 0) {
+        b'i' => tell(rest),
+        b'o' => {
+            let k = ascii::run_end(rest, 0, Class::Not(b'|'));
+            let text = ascii::part(rest, ascii::place(rest, k + 1), rest.len());
+            show(text, ascii::part(rest, 0, k));
+        }
+        b'c' => camera(rest),
+        _ => put(b"no case\n"),
+    }
 }
 
-fn declared_2() {
-    camera(b"camera=(self *)");
-    camera(b"camera=\"https://b.example\"");
-    camera(b"camera=https://b.example");
-    camera(b"camera=(https://b.example)");
-    camera(b"camera=(\"https://B.example:443\" self)");
-    camera(b"camera=\"self\"");
-    camera(b"camera=(self), camera=()");
-    camera(b"camera");
-    camera(b"camera=(\"https:\")");
-    camera(b"usb=self");
+// Each line of a list is a case, and ends in a line feed.
+fn cases(list: &[u8]) {
+    let mut i: usize = 0;
+    while i < list.len() {
+        let to = ascii::run_end(list, i, Class::Not(b'\n'));
+        case(ascii::part(list, i, to));
+        i = to + 1;
+    }
 }
 
 fn main() {
-    good_1();
-    good_2();
-    bad_1();
-    bad_2();
-    bad_3();
-    looks_1();
-    looks_2();
-    declared_1();
-    declared_2();
+    let mut list = io::buffer();
+    let n = io::read_full(0, &mut list);
+    cases(&list[..n]);
+    tell(b"a=1\n"); // no line says it
 }

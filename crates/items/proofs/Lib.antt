@@ -3,3 +3,4 @@ pub mod Suffixes
 pub mod Bytes
 pub mod ReadBack
 pub mod Laws
+pub mod Absent

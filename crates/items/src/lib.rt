@@ -57,7 +57,7 @@ fn token(s: &[u8], at: usize) -> Read
     if !ascii::is_token_start(s[at]) {
         return Read::Malformed;
     }
-    Read::At(ascii::run_end(s, at + 1, Class::Token))
+    Read::At(ascii::token_end(s, at + 1))
 }
 
 fn boolean(s: &[u8], at: usize) -> Read
@@ -285,8 +285,8 @@ fn param_turn(s: &[u8], at: usize) -> Turn
     }
 }
 
-// Parameters.
-pub fn params(s: &[u8], at: usize) -> Read
+// Parameters, turn by turn.
+fn params_from(s: &[u8], at: usize) -> Read
     ensures { λ r. ⌜ IsFrom (now (s .entry)) at r (paramsOf (drop at (now (s .entry)))) ⌝ }
 {
     let mut i = ascii::place(s, at);
@@ -297,6 +297,16 @@ pub fn params(s: &[u8], at: usize) -> Read
             Turn::Malformed => return Read::Malformed,
         }
     }
+}
+
+// Parameters: mostly there are none.
+pub fn params(s: &[u8], at: usize) -> Read
+    ensures { λ r. ⌜ IsFrom (now (s .entry)) at r (paramsOf (drop at (now (s .entry)))) ⌝ }
+{
+    if ascii::byte(s, at) != b';' {
+        return Read::At(ascii::place(s, at));
+    }
+    params_from(s, at)
 }
 
 // An item: a bare item and its parameters.

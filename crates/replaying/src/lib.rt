@@ -13,6 +13,9 @@ const STDOUT: i32 = 1;
 
 const STDERR: i32 = 2;
 
+// The input is read in pieces of so many bytes.
+const IN_BYTES: usize = 2048;
+
 // Answers are gathered in so many bytes before they are written: all buffers of a program, its table aside, have to stay within 64 KiB.
 const OUT_BYTES: usize = replay_answers::ANSWER_BYTES + 1529;
 
@@ -119,7 +122,7 @@ fn replay(table: &mut [u8])
     requires { ⌜ Valid (now table) ⌝ }
     ensures { λ _. ⌜ Valid (now (table .exit)) ⌝ }
 {
-    let mut input = io::buffer();
+    let mut input = [0u8; IN_BYTES];
     let mut texts = [0u8; LINE_BYTES];
     let mut out = [0u8; OUT_BYTES];
     let line = replay_lines::new_line();

@@ -54,6 +54,13 @@ fn add(buf: &mut [u8], at: usize, t: &[u8]) -> usize
     writing::put(buf, at, t)
 }
 
+fn add_byte(buf: &mut [u8], at: usize, b: u8) -> usize
+    requires { ⌜ length (now buf) ≡ textBytes ⌝ }
+    ensures { λ r. ⌜ Adding (now (buf .entry)) at (b ∷ []) (now (buf .exit)) r ⌝ }
+{
+    writing::put_byte(buf, at, b)
+}
+
 // Adds a separator where a text stands before it.
 fn add_separator(buf: &mut [u8], at: usize, any: bool, sep: &[u8]) -> usize
     requires { ⌜ length (now buf) ≡ textBytes ⌝ }
@@ -99,7 +106,7 @@ fn add_port(buf: &mut [u8], at: usize, p: PortPart) -> usize
             let t = origins::port_text(n);
             let bytes = t.bytes;
             let from = t.from;
-            let d = add(buf, at, b":");
+            let d = add_byte(buf, at, b':');
             add(buf, d, &bytes[from..])
         }
     }
@@ -118,7 +125,7 @@ fn add_expression(buf: &mut [u8], at: usize, e: ExpressionParts, h: &[u8]) -> us
         HostKind::None => add_scheme(buf, at, k),
         HostKind::Any => {
             let a = add_slashes(buf, at, k);
-            let b = add(buf, a, b"*");
+            let b = add_byte(buf, a, b'*');
             add_port(buf, b, p)
         }
         HostKind::Exact => {
@@ -212,9 +219,9 @@ fn add_string(buf: &mut [u8], at: usize, any: bool, e: ExpressionParts, h: &[u8]
     ensures { λ r. ⌜ Spelling (text " ") (now (buf .entry)) at any (sourceText (expressionBy e (now (h .entry))) ∷ []) (now (buf .exit)) r ⌝ }
 {
     let a = add_separator(buf, at, any, b" ");
-    let b = add(buf, a, b"\"");
+    let b = add_byte(buf, a, b'"');
     let d = add_expression(buf, b, e, h);
-    let to = add(buf, d, b"\"");
+    let to = add_byte(buf, d, b'"');
     Added { to, any: true }
 }
 
@@ -303,10 +310,10 @@ fn add_list(
     requires { ⌜ (length (now buf) ≡ textBytes) × (length (now d) ≤ 65535) ⌝ }
     ensures { λ r. ⌜ Adding (now (buf .entry)) at (valueText (tidyValue (listed (l .own) false (expressionsFrom (l .count) (drop (l .at) (now (d .entry))))))) (now (buf .exit)) r ⌝ }
 {
-    let a = add(buf, at, b"(");
+    let a = add_byte(buf, at, b'(');
     let m = add_self(buf, a, false, l.own);
     let n = add_sources(d, l.at, l.count, hashes, places, buf, m.to, m.any);
-    add(buf, n.to, b")")
+    add_byte(buf, n.to, b')')
 }
 
 // Adds the name of a feature and `=`, and a separator before them where a member stands before.
@@ -319,7 +326,7 @@ fn add_key(buf: &mut [u8], at: usize, any: bool, n: u32) -> usize
     let len = name.len;
     let a = add_separator(buf, at, any, b", ");
     let b = add(buf, a, &bytes[..len]);
-    add(buf, b, b"=")
+    add_byte(buf, b, b'=')
 }
 
 // Adds the member of a feature, if it is declared.
@@ -339,7 +346,7 @@ fn add_member(
         ListFound::Undeclared => Added { to: at, any },
         ListFound::All => {
             let a = add_key(buf, at, any, n);
-            let to = add(buf, a, b"*");
+            let to = add_byte(buf, a, b'*');
             Added { to, any: true }
         }
         ListFound::Listed(l) => {

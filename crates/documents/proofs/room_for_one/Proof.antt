@@ -9,6 +9,7 @@ room-for-one-spec =
     tie.close
     (tie.spec
     (λ c κs. search needs)
+    (λ c κs. search needs)
     (λ c. search room-full)
     (λ c κs. search needs)
     (λ c. search room-spent)
