@@ -49,6 +49,9 @@ fn odd(kind: &str) -> Vec<u8> {
     match kind {
         "ports" => listed(&|i| format!("\"https://maker.example:{}\"", 8000 + i)),
         "twice" => listed(&|i| format!("\"https://a{}.example\"", i % 93)),
+        "both" => listed(&|i| format!("\"{}://a{}.example\"", if i < 91 { "https" } else { "http" }, i % 91)),
+        "beneath" => listed(&|i| format!("\"https://{}a{}.example\"", if i < 87 { "" } else { "*." }, i % 87)),
+        "hash" => listed(&|i| format!("\"https://{}\"", (0..8).map(|k| if i >> k & 1 == 0 { "an" } else { "c0" }).collect::<String>())),
         "last" => listed(&|i| format!("\"https://a{}.example\"", i.min(92))),
         "short" => listed(&|i| if i < 36 { format!("\"http://{}\"", letter(i)) } else { format!("\"http://{}{}\"", letter(i), letter(i / 36)) }),
         "schemes" => listed(&|i| (if i % 2 == 0 { "\"http:\"" } else { "\"https:\"" }).to_string()),

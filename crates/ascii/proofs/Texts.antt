@@ -95,6 +95,14 @@ module _ (s : List ℕ) (a e : ℕ) where
   unfolding partOf pick
   part-over h g = rw (le-leb a e h, lt-leb e (length s) g)
 
+pub every-none : {A : Type 0} (p : A → Bool) → every p [] ≡ true
+unfolding every
+every-none p = refl
+
+pub every-more : {A : Type 0} (p : A → Bool) (x : A) (xs : List A) → every p (x ∷ xs) ≡ p x && every p xs
+unfolding every
+every-more p x xs = refl
+
 -- a test that each of a list passes holds at each place
 pub every-at : {A : Type 0} (p : A → Bool) (d : A) (xs : List A) (k : ℕ) → every p xs ≡ true → k < length xs → p (getD xs k d) ≡ true
 unfolding every

@@ -254,7 +254,7 @@ pub fn run_end(s: &[u8], at: usize, k: Class) -> usize
     i
 }
 
-// `run_end` of four classes, which readers of headers ask for at every byte that could start a run: without the choice of a class.
+// The same of four classes, without the choice of a class: readers of headers ask for them at each member and item.
 pub fn space_end(s: &[u8], at: usize) -> usize
     ensures { λ r. ⌜ IsRun Space (now (s .entry)) at r ⌝ }
 {

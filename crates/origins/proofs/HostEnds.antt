@@ -60,6 +60,9 @@ module _ (s : List ℕ) (from i : ℕ) (w : Passing s from i) where
 
 -- ---- the labels on the way
 
+not-label : (x y : ℕ) → isLabelByte y ≡ false → isLabelByte x ≡ true → x ≡ y → ⊥
+not-label x y f t e = clash cc
+
 -- at a place: the scan of what is left up to the colon is that of the whole
 pub record Scanning (s : List ℕ) (from i : ℕ) (starts : Bool) : Type 0 where
   pub at : Passing s from i
@@ -118,14 +121,16 @@ module _ (s : List ℕ) (from i : ℕ) (starts : Bool) (w : Scanning s from i st
       unfolding pick
       label-next d t = next true (rw (eq-eqb x 46 d, t) at at-byte)
 
-      module _ (d : x ≡ 46 → ⊥) (b : Bool) (u : b ≡ isLabelByte x) where
-        pub label-other : not b ≡ true → IsHostEnd s from end.None
-        unfolding pick
-        label-other t = let v : isLabelByte x ≡ false = sym u ∙ not-true b t in bad (sym (rw (ne-eqb x 46 d, v) at at-byte))
+      pub label-other : (x ≡ 46 → ⊥) → (b : Bool) → b ≡ isLabelByte x → b ≡ false → IsHostEnd s from end.None
+      unfolding pick
+      label-other d b u t = let v : isLabelByte x ≡ false = sym u ∙ t in bad (sym (rw (ne-eqb x 46 d, v) at at-byte))
 
-        pub label-byte : not b ≡ false → Scanning s from (i + 1) false
-        unfolding pick
-        label-byte t = let v : isLabelByte x ≡ true = sym u ∙ not-false b t in next false (rw (ne-eqb x 46 d, v) at at-byte)
+      other-byte : (x ≡ 46 → ⊥) → isLabelByte x ≡ true → Scanning s from (i + 1) false
+      unfolding pick
+      other-byte d v = next false (rw (ne-eqb x 46 d, v) at at-byte)
+
+    pub label-byte : (b : Bool) → b ≡ isLabelByte x → b ≡ true → Scanning s from (i + 1) false
+    label-byte b u t = let v : isLabelByte x ≡ true = sym u ∙ t in other-byte (not-label x 58 refl v) (not-label x 46 refl v) v
 
 -- ---- what the end says of the host
 

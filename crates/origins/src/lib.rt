@@ -159,20 +159,20 @@ fn host_end(s: &[u8], from: usize) -> HostEnd
     let mut starts = true;
     while i < s.len() {
         let b = s[i];
-        if b == b':' {
-            return ended(i, starts);
-        }
-        if b == b'.' {
+        if ascii::is_label_byte(b) {
+            starts = false;
+            i += 1;
+        } else {
+            if b == b':' {
+                return ended(i, starts);
+            }
+            if b != b'.' {
+                return HostEnd::None;
+            }
             if starts {
                 return HostEnd::None;
             }
             starts = true;
-            i += 1;
-        } else {
-            if !ascii::is_label_byte(b) {
-                return HostEnd::None;
-            }
-            starts = false;
             i += 1;
         }
     }

@@ -2,22 +2,24 @@
 use mathlib.Core.Path.{_≡_, refl, ap, _∙_, sym}
 use Prim.Native.Nat.{ℕ, suc, _+_, _-_, _≤_, _<_, min}
 use mathlib.Core.List.{List, [], _∷_, _++_, map, map-append}
-use mathlib.Core.Bool.{Bool, true, false, _||_}
+use mathlib.Core.Bool.{Bool, true, false, not, _&&_, _||_}
 use native.Mathlib.Omega.{arith}
 use native.Mathlib.Numerals.{add-one}
 use lib.ListN.{length, getD, take, drop, set, length-set, length-take}
 use lib.Seq.{set-out, take-set-le, take-suc-set, take-take, getD-set-same, getD-set-other}
 use lib.Dec.{leb, eqb}
 use borrow.Author.Tests.{leb-true, leb-false, eq-eqb, eqb-true, eqb-false}
-use Rattle.ascii.specs.Texts.{partOf}
+use Rattle.ascii.specs.Texts.{every, partOf}
+use Rattle.ascii.proofs.Bytes.{and-right}
+use Rattle.ascii.proofs.Texts.{every-more}
 use Rattle.ascii.proofs.Clash.{clash}
 use Rattle.origins.specs.Expressions.{SourceExpression}
 use Rattle.origins.specs.Answers.{expressionBy}
 use Rattle.origins.specs.NormalForms.{normal, sameExpression}
 use Rattle.origins.specs.declared.ExpressionParts.{ExpressionParts}
 use Rattle.origins.proofs.Laws.{same-expression-is}
-use Rattle.hashes.specs.Hashes.{hashOf, hasNumber, placeOf}
-use Rattle.hashes.proofs.Laws.{has-none, has-more, place-upto, place-before}
+use Rattle.hashes.specs.Hashes.{hashOf, isOther, firstPlace}
+use Rattle.hashes.proofs.Laws.{place-upto, place-before}
 use Rattle.settled.specs.Settled.{expressionsFrom}
 use Rattle.settled.specs.Answers.{settledIn, IsExpressionAt}
 use Rattle.settled.specs.declared.SettledExpression.{SettledExpression}
@@ -34,16 +36,18 @@ set-past l i x h = sym (set-out l i x h)
 pub kept : (l m : List ℕ) (i x y : ℕ) → m ≡ set l i x → x ≡ y → m ≡ set l i y
 kept l m i x y g e = rw (← e) g
 
--- an expression whose hash is none of others' isn't among them
-pub hash-apart : (e : SourceExpression) (es : List SourceExpression) → hasNumber (hashOf e) (map hashOf es) ≡ false → among e es ≡ false
+-- an expression isn't among those with other hashes
+hash-apart : (e : SourceExpression) (es : List SourceExpression) → every (isOther (hashOf e)) (map hashOf es) ≡ true → among e es ≡ false
 unfolding among
 hash-apart e [] h = refl
-hash-apart e (f ∷ fs) h = go (sameExpression e f) refl (eqb (hashOf f) (hashOf e)) refl (rw (has-more (hashOf e) (hashOf f) (map hashOf fs)) at h) (hash-apart e fs)
+hash-apart e (f ∷ fs) h = go (sameExpression e f) refl (rw (every-more (isOther (hashOf e)) (hashOf f) (map hashOf fs)) at h) (hash-apart e fs)
   where
-    go : (b : Bool) → sameExpression e f ≡ b → (c : Bool) → eqb (hashOf f) (hashOf e) ≡ c → c || hasNumber (hashOf e) (map hashOf fs) ≡ false → (hasNumber (hashOf e) (map hashOf fs) ≡ false → among e fs ≡ false) → b || among e fs ≡ false
-    go true s c u g ih = let z : eqb (hashOf f) (hashOf e) ≡ true = eq-eqb (hashOf f) (hashOf e) (ap hashOf (sym (same-expression-is e f s))) in clash cc
-    go false s true u g ih = clash cc
-    go false s false u g ih = ih g
+    go : (b : Bool) → sameExpression e f ≡ b → not (eqb (hashOf f) (hashOf e)) && every (isOther (hashOf e)) (map hashOf fs) ≡ true → (every (isOther (hashOf e)) (map hashOf fs) ≡ true → among e fs ≡ false) → b || among e fs ≡ false
+    go true s g ih =
+        let z : eqb (hashOf f) (hashOf e) ≡ true = eq-eqb (hashOf f) (hashOf e) (ap hashOf (sym (same-expression-is e f s))) in
+        let y : false ≡ true = rw z at g in
+        clash cc
+    go false s g ih = ih (and-right (not (eqb (hashOf f) (hashOf e))) (every (isOther (hashOf e)) (map hashOf fs)) g)
 
 among-append : (e : SourceExpression) (xs ys : List SourceExpression) → among e xs ≡ false → among e (xs ++ ys) ≡ among e ys
 unfolding among
@@ -54,16 +58,16 @@ among-append e (x ∷ xs) ys h = go (sameExpression e x) h (among-append e xs ys
     go true g ih = clash cc
     go false g ih = ih g
 
-module _ (d : List ℕ) (first n : ℕ) (hashes places : List ℕ) (g : Indexed d first n hashes places) (e : ExpressionParts) (h : List ℕ) (x : ℕ) (v : x ≡ hashOf (normal (expressionBy e h))) (j : ℕ) (room : n ≤ length hashes) (at : j ≡ placeOf x (take n hashes)) where
+module _ (d : List ℕ) (first n : ℕ) (hashes places : List ℕ) (g : Indexed d first n hashes places) (e : ExpressionParts) (h : List ℕ) (x : ℕ) (v : x ≡ hashOf (normal (expressionBy e h))) (j : ℕ) (room : n ≤ length hashes) (at : j ≡ firstPlace x (take n hashes)) where
   -- none before the first of its hash has its normal form
   none-before : j ≤ n → among (normal (expressionBy e h)) (map normal (expressionsFrom j (drop first d))) ≡ false
   none-before k =
-      let a : hasNumber x (take j hashes) ≡ false = rw (← at, take-take j n hashes k) at (place-before x (take n hashes)) in
-      let b : hasNumber (hashOf (normal (expressionBy e h))) (map hashOf (map normal (expressionsFrom j (drop first d)))) ≡ false = rw (← g .hashed j k (omega arith), ← v) a in
+      let a : every (isOther x) (take j hashes) ≡ true = rw (← at, take-take j n hashes k) at (place-before x (take n hashes)) in
+      let b : every (isOther (hashOf (normal (expressionBy e h)))) (map hashOf (map normal (expressionsFrom j (drop first d)))) ≡ true = rw (← g .hashed j k (omega arith), ← v) a in
       hash-apart (normal (expressionBy e h)) (map normal (expressionsFrom j (drop first d))) b
 
   upto : j ≤ n
-  upto = let a : placeOf x (take n hashes) ≤ length (take n hashes) = place-upto x (take n hashes) in let b : length (take n hashes) ≡ min n (length hashes) = length-take n hashes in omega arith
+  upto = let a : firstPlace x (take n hashes) ≤ length (take n hashes) = place-upto x (take n hashes) in let b : length (take n hashes) ≡ min n (length hashes) = length-take n hashes in omega arith
 
   -- none has its hash
   pub listed-none : n ≤ j → false ≡ among (normal (expressionBy e h)) (map normal (expressionsFrom n (drop first d)))

@@ -1,4 +1,4 @@
--- One name to compute with: to unfold it is to unfold every definition of this crate and of the crates below.
+-- One name to compute with: to unfold it is to unfold every definition of this crate and of those below that its definitions use.
 use Rattle.declarations.specs.Computing.{computing as declarations-computing}
 use Rattle.settled.specs.Computing.{computing as settled-computing}
 use Rattle.tidying.specs.Tidied.{among, unless, onceAfter, selfItem, tidyValue, withMember, tidyFrom, tidied}

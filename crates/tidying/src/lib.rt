@@ -54,6 +54,7 @@ fn add(buf: &mut [u8], at: usize, t: &[u8]) -> usize
     writing::put(buf, at, t)
 }
 
+// The same of one byte.
 fn add_byte(buf: &mut [u8], at: usize, b: u8) -> usize
     requires { ⌜ length (now buf) ≡ textBytes ⌝ }
     ensures { λ r. ⌜ Adding (now (buf .entry)) at (b ∷ []) (now (buf .exit)) r ⌝ }
@@ -170,8 +171,8 @@ fn wide(x: u16) -> usize
     x as usize
 }
 
-// The same of an expression with the hash `x`: those with another hash in the index aren't compared.
-fn listed(
+// The same of an expression with the hash `x`: what stands before the first of that hash in the index isn't compared.
+fn is_listed(
     d: &[u8],
     first: usize,
     count: usize,
@@ -243,7 +244,7 @@ fn add_source(
     ensures { λ r. ⌜ Spelling (text " ") (now (buf .entry)) at any (newText (expressionsFrom count (drop first (now (d .entry)))) (expressionBy e (now (h .entry)))) (now (buf .exit)) r × (now (hashes .exit) ≡ set (now (hashes .entry)) count (hashOf (normal (expressionBy e (now (h .entry)))))) × (now (places .exit) ≡ set (now (places .entry)) count p) ⌝ }
 {
     let x = hashes::hash(e, h);
-    let old = listed(d, first, count, hashes, places, x, e, h);
+    let old = is_listed(d, first, count, hashes, places, x, e, h);
     keep(hashes, count, x);
     keep(places, count, narrow(p));
     if old {
@@ -252,7 +253,7 @@ fn add_source(
     add_string(buf, at, any, e, h)
 }
 
-// Adds so many expressions from a place on, each once.
+// Adds so many expressions from a place on, each once. The index starts anew: what stands in its two runs doesn't matter.
 fn add_sources(
     d: &[u8],
     first: usize,
@@ -270,7 +271,7 @@ fn add_sources(
     let mut i: usize = 0;
     let mut n = Added { to: at, any };
     while i < count {
-        let next = i + 1;
+        let next = i + 1; // here the prover still has the bound of `count` at hand
         match settled::expression_at(d, p) {
             ExpressionFound::Expression(e) => {
                 let parts = e.parts;

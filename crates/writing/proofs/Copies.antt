@@ -23,7 +23,7 @@ pub copy-start : (l : List ℕ) (at : ℕ) (t : List ℕ) → withText l (at + 0
 copy-start l at t = let z : at + 0 ≡ at = omega arith in rw z refl
 
 -- `n`: how many bytes are stored in all
-module _ (m : List ℕ) (at j : ℕ) (t w : List ℕ) (e : withText m (at + j) (drop j t) ≡ w) (n room : ℕ) (least : n ≡ min (length t) room) where
+module _ (m : List ℕ) (at j : ℕ) (t w : List ℕ) (e : withText m (at + j) (drop j t) ≡ w) (n room : ℕ) (least : n ≡ min room (length t)) where
   pub copy-more : j < n → withText (set m (at + j) (getD t j 0)) (at + (j + 1)) (drop (j + 1) t) ≡ w
   unfolding withText
   copy-more h =

@@ -1,15 +1,7 @@
 // Texts put into a lent run of bytes, from a place on.
-ghost use mathlib.Core.Path.{_≡_};
 ghost use mathlib.Core.List.{[], _∷_};
-ghost use Prim.Native.Nat.{min};
 ghost use Rattle.ascii.specs.Decimals.{decimalText};
 ghost use Rattle.writing.specs.Writing.{Puts};
-
-fn least(a: usize, b: usize) -> usize
-    ensures { λ r. ⌜ r ≡ min a b ⌝ }
-{
-    if a < b { a } else { b }
-}
 
 // Puts a text at a place: as much of it as the run has room for.
 pub fn put(run: &mut [u8], at: usize, t: &[u8]) -> usize
@@ -18,7 +10,7 @@ pub fn put(run: &mut [u8], at: usize, t: &[u8]) -> usize
     if run.len() < at {
         return run.len() + 1;
     }
-    let n = least(t.len(), run.len() - at);
+    let n = ascii::place(t, run.len() - at);
     let mut j: usize = 0;
     while j < n {
         run[at + j] = t[j];

@@ -3,14 +3,14 @@ use mathlib.Core.Path.{_≡_}
 use Prim.Native.Nat.{_+_, _-_, _≤_}
 use native.Mathlib.Nat.{zero-add}
 use lib.ListN.{length, drop}
-use Rattle.hashes.specs.Hashes.{placeOf}
+use Rattle.hashes.specs.Hashes.{firstPlace}
 use Rattle.hashes.proofs.Steps.{place-hit, place-on, place-end, place-none}
 use borrow.Author.Needs.{needs}
 use Rattle.hashes.proofs.first_place.Statement.{statement}
 use Rattle.hashes.proofs.first_place.Tie as tie
 
 abbrev Inv-loop : tie.InvT-loop
-Inv-loop numbers x i₀ i = (i ≤ length numbers) × (i + placeOf x (drop i numbers) ≡ placeOf x numbers)
+Inv-loop numbers x i₀ i = (i ≤ length numbers) × (i + firstPlace x (drop i numbers) ≡ firstPlace x numbers)
 
 abbrev μ-loop : tie.MeasureT-loop
 μ-loop numbers x i₀ i = length numbers - i

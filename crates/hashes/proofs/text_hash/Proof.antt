@@ -22,9 +22,7 @@ text-hash-spec =
     μ-loop
     (λ c. (search needs, search needs, refl))
     (λ c. search needs)
-    (λ c. search needs)
     (λ c κs. search needs)
-    (λ c. search needs)
     (λ c. search needs)
     (λ c. search needs)
     (λ c. (search needs, search needs, search hash-more))

@@ -1,13 +1,13 @@
--- `listed` is right: no expression before the first of the hash has the normal form.
+-- `is_listed` is right: no expression before the first of the hash has the normal form.
 use native.Mathlib.Omega.{arith}
 use lib.ListN.{length-take}
 use Rattle.tidying.proofs.Indexing.{listed-none, listed-rest}
 use borrow.Author.Needs.{needs}
-use Rattle.tidying.proofs.listed.Statement.{statement}
-use Rattle.tidying.proofs.listed.Tie as tie
+use Rattle.tidying.proofs.is_listed.Statement.{statement}
+use Rattle.tidying.proofs.is_listed.Tie as tie
 
-pub listed-spec : {M : Type 1} → statement M
-listed-spec =
+pub is-listed-spec : {M : Type 1} → statement M
+is-listed-spec =
     tie.close
     (tie.spec
     (λ c κs. search needs)
