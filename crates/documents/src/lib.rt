@@ -310,7 +310,7 @@ fn is_bad_at_top(said: OriginText) -> bool
     }
 }
 
-// Refusal 6: as many are loaded as can be.
+// Whether as many documents are loaded as can be: refusal 6.
 fn is_full(n: usize) -> bool
     ensures { λ r. ⌜ r ≡ leb documentLimit n ⌝ }
 {
