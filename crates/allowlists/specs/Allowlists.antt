@@ -1,9 +1,9 @@
 -- Source document 003, section 4.7: allowlists, and what an item of a header or a word of an attribute means in one.
-use Rattle.std.specs.Prelude.{ℕ, List, [], ◌∷◌, Bool, true, false, ◌&&◌, ◌||◌}
+use Rattle.std.specs.Prelude.{List, [], ◌∷◌, Bool, true, false, ◌&&◌, ◌||◌}
 use Rattle.std.proofs.Math.Option.{Option, some, none}
 use Rattle.ascii.specs.Bytes.{pick}
 use Rattle.origins.specs.Origins.{Origin}
-use Rattle.origins.specs.Expressions.{SourceExpression, expression_of}
+use Rattle.origins.specs.Expressions.{SourceExpression}
 use Rattle.origins.specs.Matching.{admits, same_origin}
 
 -- `*`; or whether it has the self-origin, whether it has the src-origin, and its expressions in order

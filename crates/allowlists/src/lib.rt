@@ -1,4 +1,6 @@
 // Allowlists: what an item or a word means in one, and whether it admits an origin.
+#![tactic(auto)]
+
 ghost use Rattle.std.specs.Prelude.{◌≡◌};
 ghost use Rattle.std.proofs.Math.Option.{some};
 ghost use Rattle.origins.specs.Answers.{origin_in};
@@ -9,7 +11,7 @@ ghost use Rattle.allowlists.specs.Answers.{meaning_as, meaning_in, admission_as}
 use origins::{ExpressionRange, OriginRange, Source};
 
 // What an item or a word means in an allowlist; an expression's host is a range of its text.
-#[derive(Drop)]
+#[derive(Clone, Copy)]
 pub enum MeaningRange {
     // `*`
     All,
@@ -20,7 +22,7 @@ pub enum MeaningRange {
 }
 
 // Whether a list admits an origin, if there is one.
-#[derive(Drop)]
+#[derive(Clone, Copy)]
 pub enum Admission {
     NoList,
     Admitted,

@@ -1,7 +1,7 @@
 -- A repeated part, turn by turn. Assumes nothing.
 use mathlib.Core.Path.{◌≡◌, refl, ap, ◌∙◌, sym}
 use Prim.Native.Nat.{ℕ, zero, suc, ◌+◌, ◌≤◌, ◌<◌, min}
-use mathlib.Core.List.{List, [], ◌∷◌}
+use mathlib.Core.List.{List}
 use mathlib.Core.Option.{Option, some, none}
 use native.Mathlib.Omega.{arith}
 use borrow.Author.Rules.{rules}
@@ -12,7 +12,6 @@ use Rattle.ascii.specs.Reading.Step.{more, done, fail}
 use Rattle.ascii.specs.Places.{rest_of, left_at, went_of, went_at, Went, low_more}
 use Rattle.ascii.specs.Places.Went.{goes, ends, fails}
 use Rattle.ascii.proofs.Reading.{place-drop}
-use Rattle.ascii.specs.declared.Read.{Read}
 use Rattle.ascii.specs.declared.Read.TheVariants as read
 use Rattle.ascii.specs.declared.Turn.{Turn}
 use Rattle.ascii.specs.declared.Turn.TheVariants as turn

@@ -20,7 +20,7 @@ use Rattle.ascii.specs.Reading.{Parsed, Step, head_of, head_is, is_empty, next, 
 use Rattle.ascii.specs.Reading.Parsed.{parsed, malformed}
 use Rattle.ascii.specs.Reading.Step.{more, done, fail}
 use Rattle.ascii.specs.Places.{rest_of, left_at, went_of, went_at, Went, low, high, low_more, low_done, high_turn}
-use Rattle.ascii.specs.Places.Went.{goes, ends, fails}
+use Rattle.ascii.specs.Places.Went.{goes, ends}
 use Rattle.ascii.specs.declared.Read.{Read}
 use Rattle.ascii.specs.declared.Read.TheVariants as read
 use Rattle.ascii.specs.declared.Turn.{Turn}

@@ -1,5 +1,5 @@
 -- The classes that a run of bytes can be of.
-use Rattle.std.specs.Prelude.{ℕ, Bool, true, false, not, ◌||◌, ◌&&◌, leb, eqb}
+use Rattle.std.specs.Prelude.{ℕ, Bool, not, ◌&&◌, eqb}
 use Rattle.ascii.specs.Bytes.{is_space, is_blank, is_digit, is_key_byte, is_token_byte, is_base64, is_white}
 use Rattle.ascii.specs.declared.Class.{Class}
 use Rattle.ascii.specs.declared.Class.TheVariants.{Space, Blank, White, Word, Digit, Key, Token, Base64, Not, Neither}

@@ -1,4 +1,6 @@
 // Bytes and places of a text: classes, ASCII case, comparing, parts, runs.
+#![tactic(auto)]
+
 ghost use Rattle.std.specs.Prelude.{◌≡◌, ◌+◌, ◌≤◌, min, length, drop};
 ghost use Rattle.ascii.specs.Bytes.{is_space, is_blank, is_digit, is_upper, is_key_start, is_key_byte, is_token_start, is_token_byte, is_base64, is_text, is_label_byte, is_white, lower};
 ghost use Rattle.ascii.specs.Classes.{in_class};
@@ -109,7 +111,7 @@ pub fn lower(b: u8) -> u8
 }
 
 // The classes that a run of bytes can be of.
-#[derive(Drop)]
+#[derive(Clone, Copy)]
 pub enum Class {
     // the space
     Space,
@@ -206,7 +208,7 @@ pub fn same_lowered(a: &[u8], b: &[u8]) -> bool
 }
 
 // Where a part of a text stands.
-#[derive(Drop)]
+#[derive(Clone, Copy)]
 pub struct TextRange {
     pub from: usize,
     pub to: usize,
@@ -312,14 +314,14 @@ pub fn token_end(s: &[u8], at: usize) -> usize
 }
 
 // A reading of a part of a text: the place past it, or the text is malformed.
-#[derive(Drop)]
+#[derive(Clone, Copy)]
 pub enum Read {
     At(usize),
     Malformed,
 }
 
 // One turn of a repeated part: another follows, it was the last, or the text is malformed.
-#[derive(Drop)]
+#[derive(Clone, Copy)]
 pub enum Turn {
     More(usize),
     Done(usize),

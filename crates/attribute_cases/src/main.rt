@@ -4,6 +4,8 @@
 // header, its own header, feature), `enabled` is for the number of the container's enabled features (header), `forecast` for a
 // forecast (header, allow, sandbox, src). Else what is asked is the document that arrives (header, allow, sandbox, src, arriving
 // origin, feature). `sandbox` and `allowfullscreen` say that the attribute stands, `sandboxed` that the container is sandboxed.
+#![tactic(auto)]
+
 use allowlists::Admission;
 use ascii::Class;
 use containers::{ContainerPolicy, DeclaredOrigin};
@@ -73,7 +75,7 @@ fn admits(header: &[u8], n: u32, same: bool, t: &[u8], o: OriginRange) -> Admiss
 }
 
 // An origin that arrives in a frame, and whether it is the container's and the declared one.
-#[derive(Drop)]
+#[derive(Clone, Copy)]
 struct Arrival {
     origin: OriginRange,
     container_same: bool,

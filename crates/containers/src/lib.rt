@@ -1,4 +1,6 @@
 // A frame's attributes: allow, allowfullscreen and sandbox; the container policy and the declared origin.
+#![tactic(auto)]
+
 ghost use Rattle.std.specs.Prelude.{◌≡◌, ◌&&◌, eqb};
 ghost use Rattle.origins.specs.Answers.{origin_in};
 ghost use Rattle.allowlists.specs.Allowlists.{some_admits};
@@ -22,7 +24,7 @@ const PLUGINS: u32 = 10;
 const ALLOW_NAME_BYTES: usize = 6 + features::NAME_BYTES;
 
 // What a frame's attributes give a feature: no list, `*`, the empty list (of the sandbox attribute), or the list of an entry, as a range of the allow attribute.
-#[derive(Drop)]
+#[derive(Clone, Copy)]
 pub enum ContainerPolicy {
     None,
     All,
@@ -31,7 +33,7 @@ pub enum ContainerPolicy {
 }
 
 // The declared origin of a frame: a fresh one, the container's, or a range of src; none where src is no origin text.
-#[derive(Drop)]
+#[derive(Clone, Copy)]
 pub enum DeclaredOrigin {
     Fresh,
     Container,
@@ -40,7 +42,7 @@ pub enum DeclaredOrigin {
 }
 
 // `allow-` and a name: the first `len` of `bytes`.
-#[derive(Drop)]
+#[derive(Clone, Copy)]
 struct AllowName {
     bytes: [u8; ALLOW_NAME_BYTES],
     len: usize,

@@ -1,4 +1,6 @@
 // Value, inherited and question of a feature, told what the lists answer; and the decisions of the seventeen features as one number.
+#![tactic(auto)]
+
 ghost use Rattle.std.specs.Prelude.{◌≡◌};
 ghost use Rattle.features.specs.Answers.{default_in};
 ghost use Rattle.allowlists.specs.Answers.{admission_in};
@@ -12,7 +14,7 @@ use features::DefaultOf;
 // A bit for each of the seventeen features: what a document at the top inherits.
 pub const ALL_FEATURES: u32 = 131_071;
 
-#[derive(Drop)]
+#[derive(Clone, Copy)]
 pub enum Decision {
     Disabled,
     Enabled,
@@ -56,7 +58,7 @@ pub fn value(inherited: Decision, declared: Admission) -> Decision
 
 // What decides about a framed document: the container's values for its own and for the arriving origin, what the frame's list
 // answers for the arriving origin, the feature's default, and whether the arriving origin is the container's own.
-#[derive(Drop)]
+#[derive(Clone, Copy)]
 pub struct Framed {
     pub value_own: Decision,
     pub value_arriving: Decision,

@@ -1,4 +1,6 @@
 // What the items of a header mean in an allowlist.
+#![tactic(auto)]
+
 ghost use Rattle.std.specs.Prelude.{◌≡◌};
 ghost use Rattle.items.specs.Found.{item_in};
 ghost use Rattle.allowlists.specs.Answers.{meaning_as};

@@ -1,4 +1,6 @@
 // RFC 8941 dictionaries: their members one after the other, the last member of a key, and the items of an inner list one after the other.
+#![tactic(auto)]
+
 ghost use Rattle.std.specs.Prelude.{◌≡◌, ◌≤◌, ◌<◌, length, drop};
 ghost use Rattle.ascii.specs.Places.{IsFrom, IsTurn};
 ghost use Rattle.dictionaries.specs.Dictionaries.{inner_turn, inner_of, list_of, lone_of, value_of, assigned_of, member_of, parted_by, members, bare_key};
@@ -10,28 +12,28 @@ use ascii::{Read, TextRange, Turn};
 use items::{ItemFound, ItemKind, ItemRange, ItemRead};
 
 // A member that is an item, and where its parameters stand.
-#[derive(Drop)]
+#[derive(Clone, Copy)]
 pub struct MemberItem {
     pub item: ItemRange,
     pub params: TextRange,
 }
 
 // A member that is an inner list: the cursor of its first item, and where its parameters stand.
-#[derive(Drop)]
+#[derive(Clone, Copy)]
 pub struct MemberList {
     pub first: usize,
     pub params: TextRange,
 }
 
 // A member's value: an item, or an inner list.
-#[derive(Drop)]
+#[derive(Clone, Copy)]
 pub enum MemberValue {
     Item(MemberItem),
     List(MemberList),
 }
 
 // A member: where its key stands, its value, and the next cursor.
-#[derive(Drop)]
+#[derive(Clone, Copy)]
 pub struct MemberAt {
     pub key: TextRange,
     pub value: MemberValue,
@@ -39,7 +41,7 @@ pub struct MemberAt {
 }
 
 // A member; or none is left; or the text is not a dictionary from here on.
-#[derive(Drop)]
+#[derive(Clone, Copy)]
 pub enum NextMember {
     Member(MemberAt),
     End,
@@ -47,7 +49,7 @@ pub enum NextMember {
 }
 
 // The last member of a key.
-#[derive(Drop)]
+#[derive(Clone, Copy)]
 pub enum MemberFound {
     NotADictionary,
     Absent,
@@ -56,19 +58,19 @@ pub enum MemberFound {
 }
 
 // An item of an inner list and the next cursor; or none is left, as where the text is malformed.
-#[derive(Drop)]
+#[derive(Clone, Copy)]
 pub enum ListItem {
     Item(ItemFound),
     End,
 }
 
-#[derive(Drop)]
+#[derive(Clone, Copy)]
 enum ValueRead {
     Found(MemberValue),
     Malformed,
 }
 
-#[derive(Drop)]
+#[derive(Clone, Copy)]
 enum MemberRead {
     Found(MemberAt),
     Malformed,

@@ -10,7 +10,7 @@ use lib.Seq.{length-take-le, drop_at, take-append-add}
 use Rattle.writing.specs.Writing.{with_text}
 use Rattle.limits.specs.Limits.{text_bytes, document_limit}
 use Rattle.lent_bytes.specs.Numbers.{number_at, bytes_at, numbers_in, number_bytes}
-use Rattle.lent_bytes.proofs.Laws.{put-long, number_of, number-below, number-above, part-here, part-below, part-above, part-put, with_append, bytes-append, number-bytes-long}
+use Rattle.lent_bytes.proofs.Laws.{put-long, number-of, number-below, number-above, part-here, part-below, part-above, part-put, with_append, bytes-append, number-bytes-long}
 use Rattle.features.specs.Features.{feature_count}
 use Rattle.origins.specs.Origins.{Origin, origin_of}
 use Rattle.origins.specs.Origins.Origin.{fresh}
@@ -88,7 +88,7 @@ module _ (slot : List ℕ) (i : Identity) (m : ℕ) (h : Text) (long : slot_byte
       let d = f.depth in
       number-below (named slot i m) (settled_bytes h) settled_place (depth_place + 4 * k) (omega arith)
       ∙ (number-below (fronted slot i m) (origin_bytes_of i.origin) own_text_place (depth_place + 4 * k) (omega arith)
-      ∙ number_of (front_of i m) slot depth_place k (omega arith) (omega arith) small)
+      ∙ number-of (front_of i m) slot depth_place k (omega arith) (omega arith) small)
 
   depth_is : depth_in (described slot i m h) ≡ length i.above
   depth_is = let d = f.depth in number_is 0 (omega arith) (omega arith)
@@ -192,7 +192,7 @@ module _ (slot : List ℕ) (i : Identity) (m : ℕ) (h : Text) (long : slot_byte
   number-first : (k : ℕ) → k < 2 → get_or (decisions_of (slot_policy (described slot i m h))) k 0 < 2 ^ 32 → number_at t (everywhere_place + 4 * k) ≡ get_or (decisions_of (slot_policy (described slot i m h))) k 0
   number-first k lt small =
       let l = described-long slot i m h long f short in
-      ap (λ (x : List ℕ). number_at x (everywhere_place + 4 * k)) is ∙ number_of (decisions_of (slot_policy (described slot i m h))) (described slot i m h) everywhere_place k (omega arith) (omega arith) small
+      ap (λ (x : List ℕ). number_at x (everywhere_place + 4 * k)) is ∙ number-of (decisions_of (slot_policy (described slot i m h))) (described slot i m h) everywhere_place k (omega arith) (omega arith) small
 
   pub is-written : Written slot i m h t
   unfolding written
@@ -241,7 +241,7 @@ module _ (slot s1 s2 h : List ℕ) (d : NewDocument) (r : Bool) (long : slot_byt
       ∙ (number-below (front_put slot d) (header_bytes h) settled_place (depth_place + 4 * k) (omega arith)
       ∙ (number-below b (take d.length d.text) own_text_place (depth_place + 4 * k) (omega arith)
       ∙ (number-below a (take (4 * d.depth) d.above) above_place (depth_place + 4 * k) (omega arith)
-      ∙ number_of (numbers_of d) slot depth_place k (omega arith) (omega arith) small)))
+      ∙ number-of (numbers_of d) slot depth_place k (omega arith) (omega arith) small)))
 
   two-long : length s2 ≡ length slot
   two-long =

@@ -1,4 +1,6 @@
 // What a load makes and writes: a document at the top or in a frame, and its bytes in a slot of the table. And what a frame would inherit at its declared origin.
+#![tactic(auto)]
+
 ghost use Rattle.std.specs.Prelude.{◌≡◌, ◌++◌, ◌+◌, ◌*◌, ◌^◌, ◌≤◌, ◌<◌, length};
 ghost use Rattle.writing.specs.Writing.{with_text};
 ghost use Rattle.limits.specs.Limits.{document_limit};
@@ -17,7 +19,7 @@ use origins::{OriginRange, OriginText};
 use settling::Settled;
 
 // Two of a frame's attributes: whether allowfullscreen stands, and whether a sandbox attribute does.
-#[derive(Drop)]
+#[derive(Clone, Copy)]
 pub struct FrameMarks {
     pub allowfullscreen: bool,
     pub has_sandbox: bool,
@@ -28,7 +30,7 @@ const ABOVE_BYTES: usize = NUMBER * DOCUMENTS;
 
 // A document that is loaded, but for its header: the serials above it as they stand in a slot, and how many they are; the text of its origin, its length, and the number of an opaque one
 // (0 for a tuple); whether it is sandboxed; what it inherits, bit n for feature n.
-#[derive(Drop)]
+#[derive(Clone, Copy)]
 pub struct NewDocument {
     pub above: [u8; ABOVE_BYTES],
     pub depth: u32,
@@ -40,7 +42,7 @@ pub struct NewDocument {
 }
 
 // The origin at which a document arrives, as it stands in a slot, and beside its text.
-#[derive(Drop)]
+#[derive(Clone, Copy)]
 struct Arrival {
     text: [u8; ORIGIN_BYTES],
     length: usize,

@@ -128,6 +128,7 @@ unloads {es} {t} u n h = record {
 }
   where
     there-now : (s : ℕ) → LoadedIn (record { call = unload u; answer = removed n } ∷ es) s → (y : Document) × In y (remaining u t.docs) × (y.identity.serial ≡ s)
+    there-now s (now g) = elim g [ ]
     there-now s (still l k) =
         let w = h.is_there s l in
         let q = k u unloaded in
@@ -146,9 +147,11 @@ unloads {es} {t} u n h = record {
     told-now x m = still (h.told x (in-remaining u t.docs x m).was) (unnamed x m)
 
     known-now : {c' : Call} {a' : Answer} {s : ℕ} → Happened c' a' (record { call = unload u; answer = removed n } ∷ es) → Gave c' a' s → s < t.next
+    known-now last g = elim g [ ]
     known-now (earlier p) g = h.known p g
 
     older-now : {c' : Call} {a' : Answer} {s k : ℕ} → Happened c' a' (record { call = unload u; answer = removed n } ∷ es) → Framed c' a' s k → k < s
+    older-now last f = elim f [ ]
     older-now (earlier p) f = h.older p f
 
 -- ---- every call
@@ -163,7 +166,9 @@ module _ (es : List Event) (t : Table) (i : Invariant t) (h : Agrees es t) where
       only s gave_top = refl
 
       to : (d : ℕ) → BeneathIn (record { call = top_load hd o; answer = loaded t.next b } ∷ es) t.next d → ⊥
+      to d (directly last f) = elim f [ ]
       to d (directly (earlier p) f) = omega (arith, h.known p (framed-gave f))
+      to d (through last f k) = elim f [ ]
       to d (through (earlier p) f k) = omega (arith, h.known p (framed-gave f))
 
   framed-agrees : (c : ℕ) (hd o : Text) (a : Attributes) (d : Document) → In d t.docs → c ≡ d.identity.serial → (b : Bool) →

@@ -59,12 +59,12 @@ first_either s u d ds h i = go (ltb d.identity.serial s) (ltb d.identity.serial 
     go false false e f = unfold pick in i
 
 -- a document counts among those older than a later serial, and not among those older than its own
-older-step : (u : ℕ) {ds : List Document} (c : Document) → In c ds → c.identity.serial < u → older c.identity.serial ds < older u ds
+older-step : (u : ℕ) (c : Document) {ds : List Document} → In c ds → c.identity.serial < u → older c.identity.serial ds < older u ds
 older-step u c (here {l = ds}) h =
     omega (arith, first-not c.identity.serial c ds (omega arith), first-older u c ds h, older-more c.identity.serial u ds (omega arith))
 older-step u c (there {y = d} {l = ds} m) h = first_either c.identity.serial u d ds (omega arith) (older-step u c m h)
 
-not_itself : {ds : List Document} (x : Document) → In x ds → older x.identity.serial ds < length ds
+not_itself : (x : Document) {ds : List Document} → In x ds → older x.identity.serial ds < length ds
 not_itself x (here {l = ds}) = omega (arith, first-not x.identity.serial x ds (omega arith), older-most x.identity.serial ds)
 not_itself x (there {y = d} {l = ds} m) = go (ltb d.identity.serial x.identity.serial) refl (not_itself x m)
   where

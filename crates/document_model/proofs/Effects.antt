@@ -16,7 +16,7 @@ use Rattle.origins.specs.Origins.{OriginSaid, origin_of}
 use Rattle.document_model.specs.Runs.{left_by, answers_by}
 use Rattle.containers.specs.Attributes.{Attributes}
 use Rattle.document_model.specs.Model.{Text, Identity, Document, Table, new_table, is_at_or_beneath, find, remaining, removed_count, Call, top_load, framed_load, unload, question, enabled_features, listing, forecast_of, Answer, refused, loaded, removed, Outcome, refuse, accept, refuse_unless, with_document, texts_fit, load, top_identity, framed_identity, top_document, framed_document, fitting_outcome, outcome, answer_in, table_in, answer_to, table_left, table_after, answers, answers_after}
-use Rattle.document_model.specs.History.{Event, Gave, gave_top, gave_framed, Unloaded, Happened, last, earlier, events_from, history, accepted_load, unload_answer, accepted_loads, unload_sum}
+use Rattle.document_model.specs.History.{Event, Gave, gave_top, gave_framed, Unloaded, unloaded, Happened, last, earlier, events_from, history, accepted_load, unload_answer, accepted_loads, unload_sum}
 use Rattle.document_model.proofs.Booleans.{order}
 use Rattle.document_model.proofs.TwoRuns.{left-append, answers-append}
 use Rattle.document_model.proofs.Tables.{In, in_left, in-push, in-remaining, remaining-in, container-stays, Finds, missing, hit, finds, count}
@@ -83,8 +83,16 @@ pub data Effect (t : Table) : Call → Answer → Table → Type 0 where
       Effect t (framed_load c h o a) (loaded t.next m) (pushed t (framed_document d h a (framed_identity d.identity a (origin_of o) t.next)))
   all_removed : (s : ℕ) → Effect t (unload s) (removed (removed_count s t.docs)) (record { docs = remaining s t.docs; next = t.next })
 
+-- a refused call gave no serial and removed nothing
+gave-refused : {c : Call} {a : Answer} {s : ℕ} → Gave c a s → (n : ℕ) → a ≡ refused n → ⊥
+gave-refused gave_top n e = clash cc
+gave-refused gave_framed n e = clash cc
+
+unloaded-refused : {c : Call} {a : Answer} {u : ℕ} → Unloaded c a u → (n : ℕ) → a ≡ refused n → ⊥
+unloaded-refused unloaded n e = clash cc
+
 stopped : (t : Table) (c : Call) (n : ℕ) → Effect t c (refused n) t
-stopped t c n = nothing_else {c = c} {a = refused n} (λ s g. elim g [ ]) (λ s u. elim u [ ]) refl refl
+stopped t c n = nothing_else {c = c} {a = refused n} (λ s g. gave-refused g n refl) (λ s u. unloaded-refused u n refl) refl refl
 
 load-effect : (c : Call) (t : Table) (b : Bool) (make : Identity → Document) (identity : ℕ → Identity) → (length t.docs < document_limit → t.next ≤ last_serial → Effect t c (loaded t.next b) (pushed t (make (identity t.next)))) → Ends (Effect t c) t (load t b make identity)
 unfolding load

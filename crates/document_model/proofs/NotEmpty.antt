@@ -45,6 +45,7 @@ Older (e ∷ es) = ((s k : ℕ) → Framed e.call e.answer s k → k < s) × Old
 
 older : {c : Call} {a : Answer} {s k : ℕ} (es : List Event) → Older es → Happened c a es → Framed c a s k → k < s
 unfolding Older
+older [] o m f = elim m [ ]
 older (e ∷ es) o last f = o.0 _ _ f
 older (e ∷ es) o (earlier p) f = older es o.1 p f
 

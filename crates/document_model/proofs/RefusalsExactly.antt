@@ -146,20 +146,20 @@ module _ (cs : List Call) where
   load-verdict c is no-later b make identity =
       unless-verdict full Full refl (ltb (length t.docs) document_limit) _
       (λ e. all_loaded (serials_where (λ w. true) t.docs) is (loaded-list cs) (omega (arith, ltb-false, room, (reachable cs).few)))
-      not_full
+      (not_full c)
       (unless-verdict spent Spent refl (leb t.next last_serial) _
       (λ e. let w = given-before cs last_serial (omega arith) (omega (arith, leb-false)) in all_given is w.happened w.gave)
-      not-spent
+      (not-spent c)
       (passed refl no-later))
     where
-      not_full : ltb (length (table_after cs).docs) document_limit ≡ true → Holds (history cs) c full → ⊥
-      not_full e (all_loaded l i a k) =
+      not_full : (x : Call) → ltb (length (table_after cs).docs) document_limit ≡ true → Holds (history cs) x full → ⊥
+      not_full x e (all_loaded l i a k) =
           let z : l ≡ serials_where (λ w. true) (table_after cs).docs = exactly-one (LoadedIn (history cs)) l (serials_where (λ w. true) (table_after cs).docs) a (loaded-list cs) in
           let y : length l ≡ length (table_after cs).docs = ap length z ∙ all-where (table_after cs).docs in
           omega (arith, ltb-true)
 
-      not-spent : leb (table_after cs).next last_serial ≡ true → Holds (history cs) c spent → ⊥
-      not-spent e (all_given i h g) = omega (arith, leb-true, (agrees cs).known h g)
+      not-spent : (x : Call) → leb (table_after cs).next last_serial ≡ true → Holds (history cs) x spent → ⊥
+      not-spent x e (all_given i h g) = omega (arith, leb-true, (agrees cs).known h g)
 
   with-verdict : (c : Call) (s : ℕ) → Names c s → ((k : ℕ) → Names c k → k ≡ s) → (k : Document → Outcome) → ((d : Document) → In d t.docs → s ≡ d.identity.serial → Verdict es c 5 (k d)) → (o : Option Document) → Finds s t.docs o → Verdict es c 4 (with_document o k)
   unfolding with_document
@@ -168,10 +168,10 @@ module _ (cs : List Call) where
   with-verdict c s n only k v o (hit d m e) = extend 4 5 (omega arith) (λ q l b h. not-shut q (place-one q not_loaded (omega arith)) h) (v d m e)
     where
       not-shut : (q : Row) → q ≡ not_loaded → Holds (history cs) c q → ⊥
-      not-shut q z h = shut (subst (Holds (history cs) c) z h)
+      not-shut q z h = shut c only (subst (Holds (history cs) c) z h)
         where
-          shut : Holds (history cs) c not_loaded → ⊥
-          shut (closed k' n' f) = f (subst (LoadedIn (history cs)) (sym e ∙ sym (only k' n')) ((agrees cs).told d m))
+          shut : (x : Call) → ((k : ℕ) → Names x k → k ≡ s) → Holds (history cs) x not_loaded → ⊥
+          shut x only (closed k' n' f) = f (subst (LoadedIn (history cs)) (sym e ∙ sym (only k' n')) ((agrees cs).told d m))
 
   -- ---- every call
 

@@ -88,9 +88,9 @@ record Removal (t u : Table) (s n : ℕ) : Type 0 where
   left : u.docs ≡ remaining s t.docs
   many : n ≡ removed_count s t.docs
 
-removal : (t u : Table) (s n : ℕ) (a : Answer) → a ≡ removed n → Effect t (unload s) a u → Removal t u s n
-removal t u s n a e (nothing_else g v l r) = absurd (v s (subst (λ (b : Answer). Unloaded (unload s) b s) (sym e) unloaded))
-removal t u s n a e (all_removed k) = record { left = refl; many = cc }
+removal : (t : Table) (s n : ℕ) (u : Table) (a : Answer) → a ≡ removed n → Effect t (unload s) a u → Removal t u s n
+removal t s n u a e (nothing_else g v l r) = absurd (v s (subst (λ (b : Answer). Unloaded (unload s) b s) (sym e) unloaded))
+removal t s n u a e (all_removed k) = record { left = refl; many = cc }
 
 removed-list : (cs : List Call) (s : ℕ) → (table_after (cs ++ (unload s ∷ []))).docs ≡ remaining s (table_after cs).docs →
     Exactly (λ e. LoadedIn (history cs) e × (LoadedIn (history (cs ++ (unload s ∷ []))) e → ⊥)) (serials_where (is_at_or_beneath s) (table_after cs).docs)
@@ -129,7 +129,7 @@ unload-leaves : (cs : List Call) (s n : ℕ) → answer_to (unload s) (table_aft
 unfolding left_by
 unload-leaves cs s n e =
     let t = table_after cs in
-    ap (λ (v : Table). v.docs) (table-append cs (unload s ∷ [])) ∙ (removal t (table_left (unload s) t) s n (answer_to (unload s) t) e (effect (unload s) t)).left
+    ap (λ (v : Table). v.docs) (table-append cs (unload s ∷ [])) ∙ (removal t s n (table_left (unload s) t) (answer_to (unload s) t) e (effect (unload s) t)).left
 
 pub some_removed : (cs : List Call) (s n : ℕ) → answer_to (unload s) (table_after cs) ≡ removed n →
     (l : List ℕ) × Exactly (λ e. LoadedIn (history cs) e × (LoadedIn (history (cs ++ (unload s ∷ []))) e → ⊥)) l
@@ -140,5 +140,5 @@ pub unload_answers : (cs : List Call) (s n : ℕ) (l : List ℕ) → answer_to (
     Exactly (λ e. LoadedIn (history cs) e × (LoadedIn (history (cs ++ (unload s ∷ []))) e → ⊥)) l → n ≡ length l
 unload_answers cs s n l e x =
     let t = table_after cs in
-    let w = removal t (table_left (unload s) t) s n (answer_to (unload s) t) e (effect (unload s) t) in
+    let w = removal t s n (table_left (unload s) t) (answer_to (unload s) t) e (effect (unload s) t) in
     w.many ∙ removed-where s t.docs ∙ ap length (exactly-one (λ k. LoadedIn (history cs) k × (LoadedIn (history (cs ++ (unload s ∷ []))) k → ⊥)) (serials_where (is_at_or_beneath s) t.docs) l (removed-list cs s (unload-leaves cs s n e)) x)

@@ -20,6 +20,7 @@ pub data In (x : Document) : List Document → Type 0 where
 
 pub in-values : (f : ℕ → Document) (k i j : ℕ) → j < k → In (f (i + j)) (values_from f i k)
 unfolding values_from
+in-values f zero i j h = elim h [ ]
 in-values f (suc k) i zero h = let e : i + 0 ≡ i = omega arith in rw e here
 in-values f (suc k) i (suc j) h = let e : i + suc j ≡ suc i + j = omega arith in rw e (there (in-values f k (suc i) j (omega arith)))
 
@@ -88,6 +89,7 @@ rising-remaining s lo [] hi r = r
 rising-remaining s lo (d ∷ ds) hi r = rising-drop s lo d ds hi r.0 (is_at_or_beneath s d.identity) (rising-remaining s (suc d.identity.serial) ds hi r.1)
 
 pub rising-low : (lo : ℕ) (ds : List Document) (hi : ℕ) → Rising lo ds hi → {x : Document} → In x ds → lo ≤ x.identity.serial
+rising-low lo [] hi r m = elim m [ ]
 rising-low lo (d ∷ ds) hi r here = r.0
 rising-low lo (d ∷ ds) hi r (there m) = omega (arith, rising-low (suc d.identity.serial) ds hi r.1 m)
 
@@ -96,11 +98,13 @@ rising-high lo [] hi r = r
 rising-high lo (d ∷ ds) hi r = omega (arith, rising-high (suc d.identity.serial) ds hi r.1)
 
 pub rising-below : (lo : ℕ) (ds : List Document) (hi : ℕ) → Rising lo ds hi → (x : Document) → In x ds → x.identity.serial < hi
+rising-below lo [] hi r x m = elim m [ ]
 rising-below lo (d ∷ ds) hi r x here = rising-high (suc x.identity.serial) ds hi r.1
 rising-below lo (d ∷ ds) hi r x (there m) = rising-below (suc d.identity.serial) ds hi r.1 x m
 
 -- a serial names one document
 pub rising-one : (lo : ℕ) (ds : List Document) (hi : ℕ) → Rising lo ds hi → (x y : Document) → In x ds → In y ds → x.identity.serial ≡ y.identity.serial → x ≡ y
+rising-one lo [] hi r x y m _ e = elim m [ ]
 rising-one lo (d ∷ ds) hi r x y here here e = refl
 rising-one lo (d ∷ ds) hi r x y here (there n) e = absurd (omega (arith, rising-low (suc x.identity.serial) ds hi r.1 n))
 rising-one lo (d ∷ ds) hi r x y (there m) here e = absurd (omega (arith, rising-low (suc y.identity.serial) ds hi r.1 m))
@@ -136,6 +140,7 @@ find-some s ds d e = found-in s ds (find s ds) (finds s ds) d e
 
 pub in-find : (lo : ℕ) (ds : List Document) (hi : ℕ) → Rising lo ds hi → (c : Document) → In c ds → find c.identity.serial ds ≡ some c
 unfolding find pick
+in-find lo [] hi r c m = elim m [ ]
 in-find lo (d ∷ ds) hi r c here = rw (eqb-self c.identity.serial)
 in-find lo (d ∷ ds) hi r c (there m) =
     let l : suc d.identity.serial ≤ c.identity.serial = rising-low (suc d.identity.serial) ds hi r.1 m in

@@ -1,4 +1,6 @@
 // What a slot of the table says of the document that it is given to, and what decides about that: its questions, its enabled features, what a frame of it inherits.
+#![tactic(auto)]
+
 ghost use Rattle.std.specs.Prelude.{◌≡◌};
 ghost use Rattle.origins.specs.Origins.Origin.{fresh};
 ghost use Rattle.origins.specs.Matching.{same_origin};
@@ -221,7 +223,7 @@ pub fn is_declared(
 }
 
 // An origin that arrives in a frame of a document: the document's own, whether that equals itself, whether the arriving one is the own one, and whether it is the frame's declared one.
-#[derive(Drop)]
+#[derive(Clone, Copy)]
 struct Arriving {
     own: OriginRange,
     itself: bool,

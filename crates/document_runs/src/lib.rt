@@ -1,1 +1,3 @@
 // Lists of calls in code, and the claims of them: definitions and proofs, no code.
+#![tactic(auto)]
+

@@ -1,4 +1,6 @@
 // The table of loaded documents in one lent run of bytes: a directory, and a slot of fixed size for each document. Finding a document and its slot, allocating the first free slot, removing a document with all beneath it.
+#![tactic(auto)]
+
 ghost use Rattle.std.specs.Prelude.{◌≡◌, ◌+◌, ◌^◌, ◌≤◌, ◌<◌, length};
 ghost use Rattle.ascii.specs.Bytes.{pick};
 ghost use Rattle.writing.specs.Writing.{with_text};
@@ -29,14 +31,14 @@ const SLOTS: usize = SLOT_NUMBERS + DOCUMENTS;
 // Bytes of a table: the length that a lent run must have.
 pub const TABLE_BYTES: usize = SLOTS + document_records::SLOT_BYTES * DOCUMENTS;
 
-#[derive(Drop)]
+#[derive(Clone, Copy)]
 pub enum Found {
     At(usize),
     None,
 }
 
 // Serials, the first `count` of `list`; after them 0.
-#[derive(Drop)]
+#[derive(Clone, Copy)]
 pub struct Serials {
     pub list: [u32; DOCUMENTS],
     pub count: usize,

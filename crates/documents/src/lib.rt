@@ -1,4 +1,6 @@
 // The calls on the table of loaded documents.
+#![tactic(auto)]
+
 ghost use Rattle.std.specs.Prelude.{◌≡◌, ◌≤◌, ◌<◌, length, take, leb};
 ghost use Rattle.limits.specs.Limits.{text_bytes, document_limit};
 ghost use Rattle.features.specs.Features.{feature_count};
@@ -24,7 +26,7 @@ use limits::{DOCUMENTS, Refusal, TEXT_BYTES};
 use origins::{OriginRange, OriginText, TupleRange};
 
 // Enabled, Disabled and a refusal are three different answers.
-#[derive(Drop)]
+#[derive(Clone, Copy)]
 pub enum QuestionAnswer {
     Enabled,
     Disabled,
@@ -32,61 +34,61 @@ pub enum QuestionAnswer {
 }
 
 // A number with bit n for feature n, or a refusal.
-#[derive(Drop)]
+#[derive(Clone, Copy)]
 pub enum FeaturesAnswer {
     Features(u32),
     Refused(Refusal),
 }
 
 // An accepted load: its serial, and whether its header was malformed.
-#[derive(Drop)]
+#[derive(Clone, Copy)]
 pub struct LoadedDocument {
     pub serial: u32,
     pub malformed: bool,
 }
 
-#[derive(Drop)]
+#[derive(Clone, Copy)]
 pub enum LoadAnswer {
     Loaded(LoadedDocument),
     Refused(Refusal),
 }
 
 // How many documents were removed, or a refusal.
-#[derive(Drop)]
+#[derive(Clone, Copy)]
 pub enum UnloadAnswer {
     Removed(usize),
     Refused(Refusal),
 }
 
 // How many serials were written, or a refusal.
-#[derive(Drop)]
+#[derive(Clone, Copy)]
 pub enum ListingAnswer {
     Count(usize),
     Refused(Refusal),
 }
 
 // The texts of a framed load, or their refusal.
-#[derive(Drop)]
+#[derive(Clone, Copy)]
 enum Texts {
     Good,
     Refused(Refusal),
 }
 
 // Where a framed load goes: the place of its container, and its serial.
-#[derive(Drop)]
+#[derive(Clone, Copy)]
 struct FramePlace {
     container: usize,
     serial: u32,
 }
 
-#[derive(Drop)]
+#[derive(Clone, Copy)]
 enum FrameRoom {
     At(FramePlace),
     Refused(Refusal),
 }
 
 // Whether a new table was made.
-#[derive(Drop)]
+#[derive(Clone, Copy)]
 pub enum NewAnswer {
     Ready,
     Refused(Refusal),
@@ -296,7 +298,7 @@ pub fn forecast(
 }
 
 // What a load gets: the next serial, or a refusal.
-#[derive(Drop)]
+#[derive(Clone, Copy)]
 enum Room {
     Serial(u32),
     Refused(Refusal),

@@ -1,4 +1,6 @@
 // The seventeen features: their numbers, names and default allowlists.
+#![tactic(auto)]
+
 ghost use Rattle.std.specs.Prelude.{◌≡◌, [], ◌∷◌, map, ◌+◌, ◌<◌, ◌≤◌, min, length};
 ghost use Rattle.ascii.specs.Texts.{same_bytes};
 ghost use Rattle.features.specs.Features.{feature_count, features, name_of, default_of};
@@ -13,14 +15,14 @@ pub const COUNT: usize = 17;
 pub const NAME_BYTES: usize = 33;
 
 // The default allowlist of a feature: `*`, or `self`.
-#[derive(Drop)]
+#[derive(Clone, Copy)]
 pub enum DefaultAllowlist {
     All,
     SelfOnly,
 }
 
 // A feature's name, with spaces after it up to 33 bytes, its length, and its default allowlist.
-#[derive(Drop)]
+#[derive(Clone, Copy)]
 pub struct Feature {
     pub name: [u8; NAME_BYTES],
     pub len: usize,
@@ -133,7 +135,7 @@ fn entry(n: usize) -> Feature
 }
 
 // A feature's name: the first `len` of `bytes`.
-#[derive(Drop)]
+#[derive(Clone, Copy)]
 pub struct Name {
     pub bytes: [u8; NAME_BYTES],
     pub len: usize,
@@ -157,7 +159,7 @@ pub fn name_of(n: u32) -> Name
 }
 
 // The default allowlist that a number has.
-#[derive(Drop)]
+#[derive(Clone, Copy)]
 pub enum DefaultOf {
     All,
     SelfOnly,
@@ -224,7 +226,7 @@ fn back(word: &[u8]) -> u64
 }
 
 // A name in numbers: its length, its third byte, and `front` and `back`, all its bytes if it has 4 to 16.
-#[derive(Drop)]
+#[derive(Clone, Copy)]
 struct Packed {
     len: usize,
     third: u8,
@@ -384,7 +386,7 @@ fn only_number(len: usize, third: u8) -> u32
 }
 
 // The names that are left to compare with a word.
-#[derive(Drop)]
+#[derive(Clone, Copy)]
 pub enum Left {
     One(u32),
     Nothing,
@@ -438,7 +440,7 @@ fn is_named(n: u32, word: &[u8]) -> bool
 }
 
 // The feature that a word names.
-#[derive(Drop)]
+#[derive(Clone, Copy)]
 pub enum Lookup {
     Known(u32),
     Unknown,

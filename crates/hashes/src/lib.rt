@@ -1,4 +1,6 @@
 // A hash of an expression's normal form, and the first place of a number among others: whoever looks for an expression needn't compare those before the first of its hash.
+#![tactic(auto)]
+
 ghost use Rattle.std.specs.Prelude.{◌≡◌, ◌+◌, ◌*◌, ◌%◌, ◌<◌};
 ghost use Rattle.ascii.specs.Texts.{every};
 ghost use Rattle.origins.specs.Answers.{expression_by};

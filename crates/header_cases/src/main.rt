@@ -1,4 +1,6 @@
 // The examples of RFC 8941's grammar and document 01's header rows, read by the library. Each line of standard input is a case.
+#![tactic(auto)]
+
 use allowlists::Admission;
 use ascii::{Class, TextRange};
 use dictionaries::{ListItem, MemberFound};

@@ -6,7 +6,7 @@ use mathlib.Core.List.{List, [], ◌∷◌}
 use mathlib.Core.Bool.{Bool, true, false}
 use Rattle.ascii.specs.Bytes.{pick, is_key_start, is_key_byte}
 use Rattle.ascii.specs.Texts.{same_by, same_bytes, part_of}
-use Rattle.ascii.specs.Reading.{Parsed, head_of, head_is, run_of, past}
+use Rattle.ascii.specs.Reading.{head_of, head_is, run_of, past}
 use Rattle.ascii.specs.Reading.Parsed.{parsed, malformed}
 use Rattle.ascii.proofs.Clash.{clash}
 use Rattle.ascii.proofs.Reading.{key-starts}

@@ -1,4 +1,6 @@
 // RFC 8941: keys, parameters and items, read at a place of a text. A place past the end is the end.
+#![tactic(auto)]
+
 ghost use Rattle.std.specs.Prelude.{◌≡◌, ◌≤◌, length, drop};
 ghost use Rattle.ascii.specs.Places.{IsRead, IsFrom, IsTurn};
 ghost use Rattle.ascii.specs.Reading.{turns_of};
@@ -8,7 +10,7 @@ ghost use Rattle.items.specs.Found.{IsItem};
 use ascii::{Class, Read, Turn};
 
 // What kind of item a text is: other are numbers, byte sequences and booleans.
-#[derive(Drop)]
+#[derive(Clone, Copy)]
 pub enum ItemKind {
     Token,
     String,
@@ -16,7 +18,7 @@ pub enum ItemKind {
 }
 
 // An item: its kind, and where its text stands, a string's without the quotes.
-#[derive(Drop)]
+#[derive(Clone, Copy)]
 pub struct ItemRange {
     pub kind: ItemKind,
     pub from: usize,
@@ -24,13 +26,13 @@ pub struct ItemRange {
 }
 
 // An item, and the place past it.
-#[derive(Drop)]
+#[derive(Clone, Copy)]
 pub struct ItemFound {
     pub range: ItemRange,
     pub next: usize,
 }
 
-#[derive(Drop)]
+#[derive(Clone, Copy)]
 pub enum ItemRead {
     Found(ItemFound),
     Malformed,

@@ -97,16 +97,16 @@ unfolding bytes_of
 put_on l at x t = sym (with_append (x % 256 ∷ x / 256 % 256 ∷ x / 65536 % 256 ∷ x / 16777216 ∷ []) t l at)
 
 -- the number at a place of such a list is read back
-pub number_of : (xs l : List ℕ) (at i : ℕ) → at + 4 * length xs ≤ length l → i < length xs → get_or xs i 0 < 2 ^ 32 → number_at (with_text l at (number_bytes xs)) (at + 4 * i) ≡ get_or xs i 0
-number_of [] l at i fits lt small = absurd (omega arith)
-number_of (x ∷ xs) l at zero fits lt small =
+pub number-of : (xs l : List ℕ) (at i : ℕ) → at + 4 * length xs ≤ length l → i < length xs → get_or xs i 0 < 2 ^ 32 → number_at (with_text l at (number_bytes xs)) (at + 4 * i) ≡ get_or xs i 0
+number-of [] l at i fits lt small = absurd (omega arith)
+number-of (x ∷ xs) l at zero fits lt small =
     let e : at + 4 * 0 ≡ at = omega arith in
     let n = put-long l at (bytes_of x) in
     rw (e, bytes-more x xs, ← (put_on l at x (number_bytes xs))) (number-below (with_text l at (bytes_of x)) (number_bytes xs) (at + 4) at (omega arith) ∙ number-here l at x (omega arith) small)
-number_of (x ∷ xs) l at (suc i) fits lt small =
+number-of (x ∷ xs) l at (suc i) fits lt small =
     let e : at + 4 * suc i ≡ at + 4 + 4 * i = omega arith in
     let n = put-long l at (bytes_of x) in
-    rw (e, bytes-more x xs, ← (put_on l at x (number_bytes xs))) (number_of xs (with_text l at (bytes_of x)) (at + 4) i (omega arith) (omega arith) small)
+    rw (e, bytes-more x xs, ← (put_on l at x (number_bytes xs))) (number-of xs (with_text l at (bytes_of x)) (at + 4) i (omega arith) (omega arith) small)
 
 pub put-numbers : (l : List ℕ) (at x : ℕ) (xs : List ℕ) → with_text (with_text l at (bytes_of x)) (at + 4) (number_bytes xs) ≡ with_text l at (number_bytes (x ∷ xs))
 put-numbers l at x xs = put_on l at x (number_bytes xs) ∙ ap (with_text l at) (sym (bytes-more x xs))

@@ -1,4 +1,6 @@
 // Numbers and texts in a lent run of bytes: a number has four bytes, the lowest first.
+#![tactic(auto)]
+
 ghost use Rattle.std.specs.Prelude.{◌≡◌, [], ◌∷◌, ◌+◌, ◌≤◌, ◌<◌, length};
 ghost use Rattle.writing.specs.Writing.{with_text};
 ghost use Rattle.lent_bytes.specs.Numbers.{word, number_at, bytes_of, bytes_at};

@@ -1,4 +1,6 @@
 // The limits of documents 01 and 02, and the refusals: one place for both.
+#![tactic(auto)]
+
 ghost use Rattle.std.specs.Prelude.{◌≡◌};
 ghost use Rattle.limits.specs.Refusals.{refusal_number};
 
@@ -20,7 +22,7 @@ pub const LAST_PORT: u32 = 65_535;
 pub const PORT_DIGITS: usize = 5;
 
 // Why a call is refused: the table of document 01, "The table of loaded documents".
-#[derive(Drop)]
+#[derive(Clone, Copy)]
 pub enum Refusal {
     NotLoaded,
     NoSuchFeature,

@@ -2,6 +2,8 @@
 // origins they admit, which origins are the same, the features, and which name is left to compare
 // with a word. Each line of standard input is a case: its kind and one or two texts in quotes. It is
 // written again with the answer after it.
+#![tactic(auto)]
+
 use ascii::Class;
 use features::{DefaultOf, Left, Lookup};
 use origins::{
@@ -108,7 +110,7 @@ fn expression(s: &[u8]) {
 }
 
 // The origin of a text that is asked about: `null` is a fresh one.
-#[derive(Drop)]
+#[derive(Clone, Copy)]
 enum Said {
     Origin(OriginRange),
     None,
@@ -190,7 +192,7 @@ fn left(word: &[u8]) {
 }
 
 // A text in quotes, and the place past it.
-#[derive(Drop)]
+#[derive(Clone, Copy)]
 struct Quoted {
     from: usize,
     to: usize,

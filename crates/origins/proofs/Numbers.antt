@@ -77,11 +77,11 @@ module _ (ds : List ℕ) where
 
   pub number-empty : length ds ≡ 0 → port_number ds ≡ none
   unfolding port_number is_port_part is_number is_empty pick
-  number-empty = elim ds [ [] ↦ λ h. refl | x ∷ xs ↦ λ h. absurd (omega arith) ]
+  number-empty = elim ds as (λ ys. length ys ≡ 0 → port_number ys ≡ none) [ [] ↦ λ h. refl | x ∷ xs ↦ λ h. absurd (omega arith) ]
 
   pub number-start : length ds ≤ port_digits → (length ds ≡ 0 → ⊥) → read_from last_port 0 ds ≡ port_number ds
   unfolding port_number is_port_part is_number is_empty pick
-  number-start = elim ds [ [] ↦ λ h g. absurd (g refl) | x ∷ xs ↦ λ h g. read_is last_port 0 (x ∷ xs) (omega arith) ∙ rw (le-leb (length (x ∷ xs)) port_digits h) ]
+  number-start = elim ds as (λ ys. length ys ≤ port_digits → (length ys ≡ 0 → ⊥) → read_from last_port 0 ys ≡ port_number ys) [ [] ↦ λ h g. absurd (g refl) | x ∷ xs ↦ λ h g. read_is last_port 0 (x ∷ xs) (omega arith) ∙ rw (le-leb (length (x ∷ xs)) port_digits h) ]
 
 -- as many digits more make a number so much greater
 tens-grow : (n k : ℕ) (ds : List ℕ) → k ≤ length ds → n * 10 ^ k ≤ decimal_from n ds

@@ -7,7 +7,6 @@ use mathlib.Core.Option.{some}
 use native.Mathlib.Omega.{arith}
 use lib.ListN.{length, take, length-take}
 use Rattle.ascii.specs.Bytes.{pick, lower}
-use Rattle.ascii.specs.Literals
 use Rattle.ascii.specs.Texts.{same_bytes, same_lowered}
 use Rattle.ascii.proofs.Texts.{same-is}
 use Rattle.origins.specs.Origins.{scheme_text, scheme_slashes, past_scheme, null_text, starts_with, tuple_of, by_schemes, origin_of}

@@ -68,7 +68,7 @@ starts-lowered-is s t n r e h = rw (take-place n (length t) s e) at h
 module _ (ds : List ℕ) where
   pub zero-many : 1 < length ds → eqb (get_or ds 0 0) 48 ≡ leads_zero ds
   unfolding leads_zero head_of
-  zero-many = elim ds [ [] ↦ λ h. absurd (omega arith) | x ∷ xs ↦ λ h. rw (lt-ltb 1 (length (x ∷ xs)) h) ]
+  zero-many = elim ds as (λ ys. 1 < length ys → eqb (get_or ys 0 0) 48 ≡ leads_zero ys) [ [] ↦ λ h. absurd (omega arith) | x ∷ xs ↦ λ h. rw (lt-ltb 1 (length (x ∷ xs)) h) ]
 
   pub zero-few : length ds ≤ 1 → false ≡ leads_zero ds
   unfolding leads_zero

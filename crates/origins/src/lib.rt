@@ -1,4 +1,6 @@
 // Origin texts and source expressions: what a text says, and whether an expression admits an origin.
+#![tactic(auto)]
+
 ghost use Rattle.std.specs.Prelude.{◌≡◌, ◌∷◌, ◌≤◌, ◌<◌, ◌-◌, ◌+◌, length};
 ghost use Rattle.std.proofs.Math.Option.{some};
 ghost use Rattle.ascii.specs.Texts.{every, lowered, each, same_bytes};
@@ -16,14 +18,14 @@ ghost use Rattle.origins.specs.NormalForms.{is_dropped, normal_port, normal, sam
 
 use limits::{HOST_BYTES, LAST_PORT, PORT_DIGITS};
 
-#[derive(Drop)]
+#[derive(Clone, Copy)]
 pub enum Scheme {
     Http,
     Https,
 }
 
 // A tuple origin: its host is a range of the origin's text.
-#[derive(Drop)]
+#[derive(Clone, Copy)]
 pub struct TupleRange {
     pub scheme: Scheme,
     pub from: usize,
@@ -32,7 +34,7 @@ pub struct TupleRange {
 }
 
 // What an origin text says.
-#[derive(Drop)]
+#[derive(Clone, Copy)]
 pub enum OriginText {
     Empty,
     Null,
@@ -41,14 +43,14 @@ pub enum OriginText {
 }
 
 // An origin that is asked about: a tuple, an opaque one by its number, or a fresh opaque one.
-#[derive(Drop)]
+#[derive(Clone, Copy)]
 pub enum OriginRange {
     Tuple(TupleRange),
     Opaque(u32),
     Fresh,
 }
 
-#[derive(Drop)]
+#[derive(Clone, Copy)]
 pub enum HostKind {
     // a scheme alone
     None,
@@ -59,7 +61,7 @@ pub enum HostKind {
     Subdomains,
 }
 
-#[derive(Drop)]
+#[derive(Clone, Copy)]
 pub enum PortPart {
     Default,
     // `:*`
@@ -68,7 +70,7 @@ pub enum PortPart {
 }
 
 // A source expression: its host, where it has one, is a range of the expression's text.
-#[derive(Drop)]
+#[derive(Clone, Copy)]
 pub struct ExpressionRange {
     pub scheme: Scheme,
     pub host: HostKind,
@@ -77,7 +79,7 @@ pub struct ExpressionRange {
     pub port: PortPart,
 }
 
-#[derive(Drop)]
+#[derive(Clone, Copy)]
 pub enum Source {
     Expression(ExpressionRange),
     NotAnExpression,
@@ -139,7 +141,7 @@ fn is_host(h: &[u8], anycase: bool) -> bool
 }
 
 // Where the host of an origin text ends.
-#[derive(Drop)]
+#[derive(Clone, Copy)]
 enum HostEnd {
     At(usize),
     None,
@@ -185,7 +187,7 @@ fn host_end(s: &[u8], from: usize) -> HostEnd
 }
 
 // A port's digits, read.
-#[derive(Drop)]
+#[derive(Clone, Copy)]
 enum Digits {
     Number(u32),
     None,
@@ -301,7 +303,7 @@ fn starts_with(s: &[u8], t: &[u8]) -> bool
 }
 
 // The scheme that a text begins with, `://` included.
-#[derive(Drop)]
+#[derive(Clone, Copy)]
 enum SchemeRead {
     Of(Scheme),
     None,
@@ -336,7 +338,7 @@ pub fn origin_text(s: &[u8]) -> OriginText
 }
 
 // An expression's port-part, read.
-#[derive(Drop)]
+#[derive(Clone, Copy)]
 enum PortRead {
     Part(PortPart),
     None,
@@ -368,7 +370,7 @@ fn starts_lowered(s: &[u8], t: &[u8]) -> bool
 }
 
 // An expression's host part, read.
-#[derive(Drop)]
+#[derive(Clone, Copy)]
 enum HostRead {
     Any,
     Exact,
@@ -547,7 +549,7 @@ fn port_admits(p: PortPart, j: Scheme, n: u32) -> bool
 }
 
 // A source expression by its parts, beside the text of its host.
-#[derive(Drop)]
+#[derive(Clone, Copy)]
 pub struct ExpressionParts {
     pub scheme: Scheme,
     pub host: HostKind,
@@ -555,7 +557,7 @@ pub struct ExpressionParts {
 }
 
 // A tuple origin by its parts, beside the text of its host.
-#[derive(Drop)]
+#[derive(Clone, Copy)]
 pub struct TupleParts {
     pub scheme: Scheme,
     pub port: u32,
@@ -688,7 +690,7 @@ pub fn normal_port(k: Scheme, p: PortPart) -> PortPart
 }
 
 // A port in decimal: the bytes from `from` on.
-#[derive(Drop)]
+#[derive(Clone, Copy)]
 pub struct PortText {
     pub bytes: [u8; PORT_DIGITS],
     pub from: usize,

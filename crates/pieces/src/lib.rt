@@ -1,4 +1,6 @@
 // Texts of pieces, each a feature and words: the entry of each feature, and whether the list that its words make admits an origin.
+#![tactic(auto)]
+
 ghost use Rattle.std.specs.Prelude.{◌≡◌, map, ◌≤◌, length};
 ghost use Rattle.ascii.specs.Texts.{part_of};
 ghost use Rattle.origins.specs.Answers.{origin_in};
@@ -14,34 +16,34 @@ use features::Lookup;
 use origins::OriginRange;
 
 // A word of a text, if there is one.
-#[derive(Drop)]
+#[derive(Clone, Copy)]
 pub enum WordFound {
     Word(TextRange),
     None,
 }
 
 // The entry of a feature: none, or the words after the feature, as a range of the text.
-#[derive(Drop)]
+#[derive(Clone, Copy)]
 pub enum EntryFound {
     None,
     Words(TextRange),
 }
 
 // What a feature means that has no further words.
-#[derive(Drop)]
+#[derive(Clone, Copy)]
 pub enum Bare {
     SelfOrigin,
     SrcOrigin,
 }
 
 // A piece for a feature: its number, and the range of the further words.
-#[derive(Drop)]
+#[derive(Clone, Copy)]
 struct PieceFor {
     feature: u32,
     words: TextRange,
 }
 
-#[derive(Drop)]
+#[derive(Clone, Copy)]
 enum Piece {
     For(PieceFor),
     Unknown,

@@ -1,4 +1,6 @@
 // The texts of answers in the replay format, put into a lent run from a place on.
+#![tactic(auto)]
+
 ghost use Rattle.std.specs.Prelude.{◌≡◌, ◌+◌, length, ltb};
 ghost use Rattle.limits.specs.Limits.{text_bytes, document_limit};
 ghost use Rattle.limits.specs.Refusals.{refusal_number};

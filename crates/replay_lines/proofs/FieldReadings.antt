@@ -25,16 +25,7 @@ use Rattle.replay_lines.specs.declared.CallName.TheVariants as name
 use Rattle.replay_lines.specs.declared.FieldState.{FieldState}
 use Rattle.replay_lines.specs.declared.Fields.{Fields}
 use Rattle.replay_lines.specs.declared.LineState.{LineState}
-use Rattle.replay_lines.specs.contracts.Fields as fields-type
-use Rattle.replay_lines.specs.contracts.LineState as state-type
 use Rattle.replay_lines.proofs.Slots.{take-least, kept-long, kept-part}
-
--- what is passed has a place for each field
-pub list-long : (fs : Fields) (vs : List Val) → Is (row fields-type.the_type) fs vs → length fs.list ≡ field_limit
-list-long fs vs g = simp length-map at g.1.1.0.1.0.1
-
-pub ended-long : (s : LineState) (vs : List Val) → Is (row state-type.the_type) s vs → length s.ended ≡ field_limit
-ended-long s vs g = simp length-map at g.1.1.0.1.0.1
 
 -- a field that has no `%`, or has one
 module _ (run : List ℕ) (fs : Fields) (j : ℕ) (f : FieldState) (is : IsFieldAt fs j f) (w : Bool) (u : w ≡ literal_as f) where

@@ -106,12 +106,12 @@ fields-call us u ts e =
     rw e (c ∙ (ap call_of (fields-say (u ∷ ts)) ∙ cut-call (map says (u ∷ ts))))
 
 -- a line, read byte by byte, is the call that the format says, its texts cut
-pub line_read : (s : Text) → line_from (read_on new_reading s) ≡ cut_line (line_of s)
+pub line-read : (s : Text) → line_from (read_on new_reading s) ≡ cut_line (line_of s)
 unfolding line_of
-line_read s =
+line-read s =
     ap line_from (read-fields s [] new_field)
     ∙ fields-call (cut_at is_tab s) (run_of (λ b. not (is_tab b)) s) (rest_cut is_tab (past (λ b. not (is_tab b)) s)) (cut-run is_tab s)
 
 -- so is the answer of `call`, by its contract, for a state that `read` left by its own
 pub call-read : (run : List ℕ) (state : LineState) (r : LineRead) (s : Text) → reading_in run state ≡ read_on new_reading s → line_in run r ≡ line_from (reading_in run state) → line_in run r ≡ cut_line (line_of s)
-call-read run state r s e f = f ∙ (ap line_from e ∙ line_read s)
+call-read run state r s e f = f ∙ (ap line_from e ∙ line-read s)

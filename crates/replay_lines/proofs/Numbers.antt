@@ -24,11 +24,11 @@ use Rattle.replay_lines.specs.declared.Digits.TheVariants as digits
 module _ (most : ℕ) (u : List ℕ) where
   pub upto-empty : length u ≡ 0 → none ≡ upto most u
   unfolding upto is_empty pick
-  upto-empty = elim u [ [] ↦ λ h. refl | x ∷ xs ↦ λ h. absurd (omega arith) ]
+  upto-empty = elim u as (λ ys. length ys ≡ 0 → none ≡ upto most ys) [ [] ↦ λ h. refl | x ∷ xs ↦ λ h. absurd (omega arith) ]
 
   pub upto-start : (length u ≡ 0 → ⊥) → read_from most 0 u ≡ upto most u
   unfolding upto is_empty
-  upto-start = elim u [ [] ↦ λ g. absurd (g refl) | x ∷ xs ↦ λ g. read_is most 0 (x ∷ xs) (omega arith) ]
+  upto-start = elim u as (λ ys. (length ys ≡ 0 → ⊥) → read_from most 0 ys ≡ upto most ys) [ [] ↦ λ g. absurd (g refl) | x ∷ xs ↦ λ g. read_is most 0 (x ∷ xs) (omega arith) ]
 
 -- one digit more, by the tests that the code makes
 module _ (most n i : ℕ) (ds : List ℕ) (r : Option ℕ) (q : ℕ) (is : q ≡ get_or ds i 0 - 48) (b : Bool) (u : b ≡ is_digit (get_or ds i 0)) (t : not b ≡ false) (h : i < length ds) (e : read_from most n (drop i ds) ≡ r) where

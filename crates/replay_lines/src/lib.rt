@@ -1,4 +1,6 @@
 // The lines of the replay format: read in pieces of any size, and which call a line is.
+#![tactic(auto)]
+
 ghost use Rattle.std.specs.Prelude.{◌≡◌, ℕ, ◌+◌, ◌≤◌, ◌<◌, min, List, length, get_or};
 ghost use Rattle.replay_lines.specs.Format.{is_hex, hex_value, hex_byte, number_of, mark_of, name_of, nothing, number_at, mark_at, text_at, sandbox_at, attributes_at, top_row, frame_row, unload_row, ask_row, enabled_row, beneath_row, forecast_row, tidy_row, call_of};
 ghost use Rattle.replay_lines.specs.Reading.{field_limit, line_bytes, new_reading, read_on, is_whole, line_from};
@@ -22,7 +24,7 @@ pub const LAST_NUMBER: u64 = 4_294_967_295;
 const TAB: u8 = 9;
 
 // Where a field stands in a `%`.
-#[derive(Drop)]
+#[derive(Clone, Copy)]
 pub enum Place {
     // each `%` so far has its two digits
     Plain,
@@ -34,7 +36,7 @@ pub enum Place {
 }
 
 // What was read of a field: how many bytes its part of the run keeps, whether it has a `%`, whether a `%` is its first byte.
-#[derive(Drop)]
+#[derive(Clone, Copy)]
 pub struct FieldState {
     kept: usize,
     escaped: bool,
@@ -43,7 +45,7 @@ pub struct FieldState {
 }
 
 // What was read of a line: the fields that ended, `number` of them, and the one that is read. From FIELDS on there are too many.
-#[derive(Drop)]
+#[derive(Clone, Copy)]
 pub struct LineState {
     ended: [FieldState; FIELDS],
     number: usize,
@@ -51,7 +53,7 @@ pub struct LineState {
 }
 
 // The names of the calls.
-#[derive(Drop)]
+#[derive(Clone, Copy)]
 pub enum CallName {
     Top,
     Frame,
@@ -65,55 +67,55 @@ pub enum CallName {
 }
 
 // The fields of a line, `count` of them.
-#[derive(Drop)]
+#[derive(Clone, Copy)]
 struct Fields {
     list: [FieldState; FIELDS],
     count: usize,
 }
 
 // Digits, read in decimal.
-#[derive(Drop)]
+#[derive(Clone, Copy)]
 enum Digits {
     Number(u64),
     None,
 }
 
 // A field read as a number.
-#[derive(Drop)]
+#[derive(Clone, Copy)]
 enum NumberField {
     Number(u32),
     None,
 }
 
 // FULLSCREEN, read.
-#[derive(Drop)]
+#[derive(Clone, Copy)]
 enum MarkField {
     Mark(bool),
     None,
 }
 
 // A text field: where its text stands in the run.
-#[derive(Drop)]
+#[derive(Clone, Copy)]
 enum TextField {
     Text(TextRange),
     None,
 }
 
 // Whether a sandbox attribute stands, and where its text does.
-#[derive(Drop)]
+#[derive(Clone, Copy)]
 pub struct SandboxRange {
     pub stands: bool,
     pub text: TextRange,
 }
 
-#[derive(Drop)]
+#[derive(Clone, Copy)]
 enum SandboxField {
     Sandbox(SandboxRange),
     None,
 }
 
 // A frame's attributes: where their texts stand in the run.
-#[derive(Drop)]
+#[derive(Clone, Copy)]
 pub struct AttributeRanges {
     pub src: TextRange,
     pub fullscreen: bool,
@@ -121,19 +123,19 @@ pub struct AttributeRanges {
     pub sandbox: SandboxRange,
 }
 
-#[derive(Drop)]
+#[derive(Clone, Copy)]
 enum AttributeFields {
     Attributes(AttributeRanges),
     None,
 }
 
-#[derive(Drop)]
+#[derive(Clone, Copy)]
 pub struct TopLine {
     pub origin: TextRange,
     pub header: TextRange,
 }
 
-#[derive(Drop)]
+#[derive(Clone, Copy)]
 pub struct FrameLine {
     pub container: u32,
     pub origin: TextRange,
@@ -141,33 +143,33 @@ pub struct FrameLine {
     pub header: TextRange,
 }
 
-#[derive(Drop)]
+#[derive(Clone, Copy)]
 pub struct AskLine {
     pub serial: u32,
     pub feature: u32,
     pub origin: TextRange,
 }
 
-#[derive(Drop)]
+#[derive(Clone, Copy)]
 pub struct BeneathLine {
     pub serial: u32,
     pub room: u32,
 }
 
-#[derive(Drop)]
+#[derive(Clone, Copy)]
 pub struct ForecastLine {
     pub container: u32,
     pub attributes: AttributeRanges,
 }
 
-#[derive(Drop)]
+#[derive(Clone, Copy)]
 pub struct TidyLine {
     pub room: u32,
     pub header: TextRange,
 }
 
 // The call that a line is; its texts stand in the run, at most one byte more of each than the limit.
-#[derive(Drop)]
+#[derive(Clone, Copy)]
 pub enum Line {
     Top(TopLine),
     Frame(FrameLine),

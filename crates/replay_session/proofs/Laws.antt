@@ -23,7 +23,7 @@ use Rattle.replay_answers.specs.Texts.{answer_text}
 use Rattle.replay_lines.specs.Format.{Line, line_of}
 use Rattle.replay_lines.specs.Format.Line.{top, frame, unload, ask, enabled, beneath, forecast, tidy, bad_line}
 use Rattle.replay_lines.specs.Reading.{kept_text, new_reading, read_on, line_from, cut, cut_attributes, cut_line}
-use Rattle.replay_lines.proofs.Laws.{line_read}
+use Rattle.replay_lines.proofs.Laws.{line-read}
 use Rattle.replay_session.specs.Session.{tidy_line_text, line_answer, line_table}
 
 -- ---- texts
@@ -189,8 +189,8 @@ cut-table bad_line t = refl
 
 -- a line, read byte by byte and its texts cut, is answered as the line that its bytes are
 pub line-answers : (s : Text) (t : ModelTable) → line_answer (line_from (read_on new_reading s)) t ≡ line_answer (line_of s) t
-line-answers s t = ap (λ (l : Line). line_answer l t) (line_read s) ∙ cut-answer (line_of s) t
+line-answers s t = ap (λ (l : Line). line_answer l t) (line-read s) ∙ cut-answer (line_of s) t
 
 -- and leaves the same table
 pub line-tables : (s : Text) (t : ModelTable) → line_table (line_from (read_on new_reading s)) t ≡ line_table (line_of s) t
-line-tables s t = ap (λ (l : Line). line_table l t) (line_read s) ∙ cut-table (line_of s) t
+line-tables s t = ap (λ (l : Line). line_table l t) (line-read s) ∙ cut-table (line_of s) t

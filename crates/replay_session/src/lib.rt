@@ -1,4 +1,6 @@
 // A line of the replay format on a table of documents: the call that it is, made, and its answer put into a lent run.
+#![tactic(auto)]
+
 ghost use Rattle.std.specs.Prelude.{◌≡◌, min, ◌≤◌, length};
 ghost use Rattle.ascii.specs.Texts.{part_in};
 ghost use Rattle.tidying.specs.Tidied.{tidied};

@@ -1,4 +1,6 @@
 // A replayed session: calls on one new table in a lent run, from standard input, a line each, and their answers on standard output.
+#![tactic(auto)]
+
 ghost use Rattle.std.specs.Prelude.{◌≤◌};
 ghost use Rattle.documents.specs.Answers.{Valid};
 ghost use Rattle.replaying.specs.Sessions.{out_bytes, Ready, Ends, Replayed};
@@ -20,7 +22,7 @@ const IN_BYTES: usize = 2048;
 const OUT_BYTES: usize = replay_answers::ANSWER_BYTES + 1529;
 
 // What was read of the line, whether the line has begun, how many bytes of answers wait to be written, and whether a write failed.
-#[derive(Drop)]
+#[derive(Clone, Copy)]
 struct Session {
     line: LineState,
     begun: bool,

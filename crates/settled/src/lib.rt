@@ -1,4 +1,6 @@
 // What a document's bytes say that a header was settled into: a question compares bytes and reads no text again.
+#![tactic(auto)]
+
 ghost use Rattle.std.specs.Prelude.{◌≡◌, ◌+◌, ◌≤◌, ◌<◌, ◌^◌, min, length, drop, false};
 ghost use Rattle.origins.specs.Origins.Origin.{tuple};
 ghost use Rattle.origins.specs.Answers.{origin_in, tuple_by};
@@ -16,21 +18,21 @@ pub const ENTRY: usize = 5;
 pub const HEAD: usize = 85;
 
 // An expression of a list: its parts, and its host, a range of the bytes; the next expression starts where the host ends.
-#[derive(Drop)]
+#[derive(Clone, Copy)]
 pub struct SettledExpression {
     pub parts: ExpressionParts,
     pub from: usize,
     pub to: usize,
 }
 
-#[derive(Drop)]
+#[derive(Clone, Copy)]
 pub enum ExpressionFound {
     Expression(SettledExpression),
     None,
 }
 
 // A list without `*`: whether it has `self`, where its expressions start, and how many they are.
-#[derive(Drop)]
+#[derive(Clone, Copy)]
 pub struct ListRange {
     pub own: bool,
     pub at: usize,
@@ -38,7 +40,7 @@ pub struct ListRange {
 }
 
 // What the bytes say for a feature.
-#[derive(Drop)]
+#[derive(Clone, Copy)]
 pub enum ListFound {
     Undeclared,
     All,

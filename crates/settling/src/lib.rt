@@ -1,4 +1,6 @@
 // A header settled in one pass into a document's bytes: a head, and the expressions of its lists.
+#![tactic(auto)]
+
 ghost use Rattle.std.specs.Prelude.{◌≡◌, [], ◌∷◌, map, true, ◌+◌, ◌*◌, ◌/◌, ◌%◌, ◌≤◌, ◌<◌, length};
 ghost use Rattle.std.proofs.Math.Option.{some};
 ghost use Rattle.limits.specs.Limits.{text_bytes};
@@ -24,13 +26,13 @@ use origins::{ExpressionRange, HostKind, PortPart, Scheme};
 use settled::{ENTRY, HEAD};
 
 // A header that was settled: how many bytes it takes of the run, and whether it is malformed.
-#[derive(Drop)]
+#[derive(Clone, Copy)]
 pub struct SettledHeader {
     pub to: usize,
     pub malformed: bool,
 }
 
-#[derive(Drop)]
+#[derive(Clone, Copy)]
 pub enum Settled {
     Header(SettledHeader),
     // the header is over the limit
@@ -40,7 +42,7 @@ pub enum Settled {
 }
 
 // Expressions that were written: where they end, how many, and whether their items had `*` and `self` among them.
-#[derive(Drop)]
+#[derive(Clone, Copy)]
 struct Listed {
     to: usize,
     count: usize,
@@ -49,7 +51,7 @@ struct Listed {
 }
 
 // A member's value that was written: where it ends, how many expressions, and its mark.
-#[derive(Drop)]
+#[derive(Clone, Copy)]
 struct Kept {
     to: usize,
     count: usize,

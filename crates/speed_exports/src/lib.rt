@@ -1,4 +1,6 @@
 // Functions exported for the trials in bench/ and tests/: tidying, settling, the question to a list, and the calls on the table, with numbers for their answers.
+#![tactic(auto)]
+
 ghost use Rattle.std.specs.Prelude.{◌≡◌, false, ◌≤◌};
 ghost use Rattle.limits.specs.Limits.{document_limit};
 ghost use Rattle.limits.specs.Refusals.{refusal_number};
@@ -100,7 +102,7 @@ pub extern "C" fn speed_admits(d: &[u8], feature: u32, asked: u32, host: &[u8]) 
 
 // An answer of a call on the table: a refusal's number, or 0 and what the call gives.
 #[repr(C)]
-#[derive(Drop)]
+#[derive(Clone, Copy)]
 pub struct Numbers {
     pub refusal: u32,
     pub value: u32,

@@ -1,5 +1,7 @@
 // Document 01's cases about frames and the table that the replay format has no line for, and those of 02's R-4 about lent memory, over the library's calls: a sandbox text
 // without a sandbox attribute, the lent run of a listing place by place, the table after a refusal, and a new table in runs of several lengths, whatever bytes stand in them.
+#![tactic(auto)]
+
 ghost use Rattle.documents.specs.Answers.{Valid};
 
 use document_loads::FrameMarks;

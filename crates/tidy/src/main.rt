@@ -1,4 +1,6 @@
 // Reads one header on standard input, every byte as it comes, to its end, and writes its tidied form, or the refusal's number, and a line feed.
+#![tactic(auto)]
+
 use limits::TEXT_BYTES;
 use tidying::TidyAnswer;
 
@@ -9,7 +11,7 @@ const STDOUT: i32 = 1;
 const STDERR: i32 = 2;
 
 // What was read: how many bytes are kept, or a read failed.
-#[derive(Drop)]
+#[derive(Clone, Copy)]
 enum Input {
     Bytes(usize),
     Failed,

@@ -1,4 +1,6 @@
 // Document 01's cases about tidying, with 02's R-4, and one of R-3, over the library's call: the limits, the order of the refusals, and every lent byte.
+#![tactic(auto)]
+
 ghost use Rattle.std.specs.Prelude.{◌<◌};
 
 use tidying::TidyAnswer;

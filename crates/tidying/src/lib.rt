@@ -1,4 +1,6 @@
 // Tidied headers: written from settled lists into a buffer of the limit's size, then copied to the lent run.
+#![tactic(auto)]
+
 ghost use Rattle.std.specs.Prelude.{◌≡◌, [], ◌∷◌, ◌++◌, map, false, length, drop, set, ◌≤◌};
 ghost use Rattle.limits.specs.Limits.{text_bytes};
 ghost use Rattle.ascii.specs.Bytes.{pick};
@@ -22,7 +24,7 @@ use settled::{ExpressionFound, HEAD, ListFound, ListRange};
 use settling::Settled;
 
 // The length of the tidied form, or a refusal.
-#[derive(Drop)]
+#[derive(Clone, Copy)]
 pub enum TidyAnswer {
     Length(usize),
     Refused(Refusal),
@@ -32,7 +34,7 @@ pub enum TidyAnswer {
 const INDEXED: usize = TEXT_BYTES / 8;
 
 // Where a text ends that was written, and whether a text stands before the next one.
-#[derive(Drop)]
+#[derive(Clone, Copy)]
 struct Added {
     to: usize,
     any: bool,

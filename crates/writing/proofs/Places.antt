@@ -1,10 +1,10 @@
 -- Where a text that was put into a run is read back, and that every other byte stays: the laws of writes as equations. Assumes nothing.
 use mathlib.Core.Path.{◌≡◌, refl, ap, ◌∙◌, sym}
-use Prim.Native.Nat.{ℕ, zero, suc, ◌+◌, ◌-◌, ◌≤◌, ◌<◌, min}
+use Prim.Native.Nat.{ℕ, zero, suc, ◌+◌, ◌≤◌, ◌<◌}
 use mathlib.Core.List.{List, [], ◌∷◌, ◌++◌, append_assoc}
 use native.Mathlib.Omega.{arith}
 use lib.ListN.{length, get_or, take, drop, set, length-set, length-take, length-drop, length-append, take-append-drop}
-use lib.Seq.{drop-drop, drop-append-le, get_or-set_same, get_or-set_other, get_or-take, get_or-drop, ext_get_or, length-sets, sets-eq, take_at, length-take-le}
+use lib.Seq.{drop-drop, drop-append-le, get_or-set_same, get_or-set_other, get_or-take, get_or-drop, ext_get_or, length-sets, sets-eq}
 use Rattle.writing.specs.Writing.{with_text}
 
 -- the run keeps its length

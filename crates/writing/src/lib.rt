@@ -1,4 +1,6 @@
 // Texts put into a lent run of bytes, from a place on.
+#![tactic(auto)]
+
 ghost use Rattle.std.specs.Prelude.{[], ◌∷◌};
 ghost use Rattle.ascii.specs.Decimals.{decimal_text};
 ghost use Rattle.writing.specs.Writing.{Puts};

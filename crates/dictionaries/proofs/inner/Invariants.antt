@@ -1,0 +1,13 @@
+-- At each place the turns that are left read what the turns from the start read.
+use Rattle.std.proofs.Common.{◌≤◌, ◌-◌, ◌^◌, length, drop}
+use Rattle.ascii.specs.Reading.{turns_of}
+use Rattle.ascii.specs.Places.{rest_of}
+use Rattle.ascii.proofs.Looping.{Left}
+use Rattle.dictionaries.specs.Dictionaries.{inner_turn}
+use Rattle.dictionaries.proofs.inner.Given as goal
+
+abbrev pub invariant-loop-q : goal.invariant-loop-q
+invariant-loop-q l = (l.initial.i ≤ l.i) × (l.i ≤ length l.s) × Left inner_turn l.s l.i (rest_of (turns_of inner_turn (drop l.initial.i l.s)))
+
+abbrev pub decreases-loop-q : goal.decreases-loop-q
+decreases-loop-q l = 2 ^ 64 - l.i

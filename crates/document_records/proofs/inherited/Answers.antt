@@ -1,0 +1,15 @@
+use Rattle.std.proofs.Common.{refl, arith, rules}
+use Rattle.document_records.proofs.Inheriting.{none-stored, one-stored, inherited-is}
+use Rattle.document_records.proofs.inherited.Goals as goal
+
+pub loop-i-init : goal.loop-i-init
+loop-i-init c = (omega arith, refl, none-stored _ _ _ _ _ _ _)
+
+pub loop-i-smaller : goal.loop-i-smaller
+loop-i-smaller c = omega arith
+
+pub loop-i-preserved : goal.loop-i-preserved
+loop-i-preserved c = (omega arith, search rules, search one-stored)
+
+pub returns : goal.returns
+returns c = search inherited-is

@@ -1,0 +1,7 @@
+-- Where no semicolon stands nothing is read.
+use Rattle.ascii.proofs.Reading.{lows, highs}
+use Rattle.items.proofs.Absent.{params_none}
+use Rattle.items.proofs.params.Goals as goal
+
+pub returns-then-byte-ne59 : goal.returns-then-byte-ne59
+returns-then-byte-ne59 c = record { is = search params_none; from = omega lows; upto = omega highs }

@@ -1,0 +1,15 @@
+-- `add_port` is right: each arm adds the text of its case.
+use Rattle.tidying.proofs.Forms.{port-long, port-default, port-any, port-number}
+use Rattle.tidying.proofs.add_port.Goals as goal
+
+pub slice_bounds-add-end-in-Number : goal.slice_bounds-add-end-in-Number
+slice_bounds-add-end-in-Number c = search port-long
+
+pub returns-in-Default : goal.returns-in-Default
+returns-in-Default c = search port-default
+
+pub returns-in-Any : goal.returns-in-Any
+returns-in-Any c = search port-any
+
+pub returns-in-Number : goal.returns-in-Number
+returns-in-Number c = search port-number
