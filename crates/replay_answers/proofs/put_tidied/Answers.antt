@@ -1,0 +1,16 @@
+-- `put_tidied` is right: a run that isn't longer than the form is put whole, and of a longer one its front.
+use Rattle.std.proofs.Common.{arith, length-take}
+use Rattle.replay_answers.proofs.Answering.{tidies}
+use Rattle.replay_answers.proofs.put_tidied.Goals as goal
+
+pub returns-then-tidied-n : goal.returns-then-tidied-n
+returns-then-tidied-n c = search tidies
+
+pub slice_bounds-put-end-in-Length : goal.slice_bounds-put-end-in-Length
+slice_bounds-put-end-in-Length c = simp length-take (omega arith)
+
+pub returns-in-Refused : goal.returns-in-Refused
+returns-in-Refused c = search tidies
+
+pub returns-else-tidied-n : goal.returns-else-tidied-n
+returns-else-tidied-n c = search tidies

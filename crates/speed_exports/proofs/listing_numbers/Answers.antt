@@ -1,0 +1,12 @@
+-- `listing_numbers` is right: each arm is a case of the definition.
+use Rattle.speed_exports.proofs.Answers.{listed-few, listing-told, listing-refused}
+use Rattle.speed_exports.proofs.listing_numbers.Goals as goal
+
+pub narrow-requires : goal.narrow-requires
+narrow-requires c = search listed-few
+
+pub returns-in-Count : goal.returns-in-Count
+returns-in-Count c = search listing-told
+
+pub returns-in-Refused : goal.returns-in-Refused
+returns-in-Refused c = search listing-refused

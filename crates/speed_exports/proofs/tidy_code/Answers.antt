@@ -1,0 +1,6 @@
+-- `tidy_code` is right: each arm is a case of the definition.
+use Rattle.speed_exports.proofs.Codes.{tidy-refused}
+use Rattle.speed_exports.proofs.tidy_code.Goals as goal
+
+pub returns-in-Refused : goal.returns-in-Refused
+returns-in-Refused c = search tidy-refused
