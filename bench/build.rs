@@ -1,16 +1,20 @@
-// Links the proved library that `rt staticlib speed_exports` wrote; for `bench/run names` those of the two lookups.
+// Links the proved library that `rt lib` wrote in crates/speed_exports; for `bench/run names` those of the lookup as it is and, where it was built, as it was.
 fn main() {
     let root = std::env::var("CARGO_MANIFEST_DIR").unwrap();
     let link = |folder: &str, name: &str| {
-        println!("cargo:rustc-link-search=native={root}/../{folder}/staticlib");
+        println!("cargo:rustc-link-search=native={root}/../{folder}/crates/{name}/out");
         println!("cargo:rustc-link-lib=static={name}");
-        println!("cargo:rerun-if-changed={root}/../{folder}/staticlib/lib{name}.a");
+        println!("cargo:rerun-if-changed={root}/../{folder}/crates/{name}/out/lib{name}.a");
     };
     if std::env::var("CARGO_FEATURE_NAMES").is_ok() {
-        for (folder, name) in [("before", "names_before"), ("before", "called_before"), ("now", "names_now"), ("now", "called_now")] {
-            link(&format!("target/names_{folder}/target"), name);
+        let mut lookups = vec![("now", "names_now"), ("now", "called_now")];
+        if std::env::var("CARGO_FEATURE_BEFORE").is_ok() {
+            lookups.extend([("before", "names_before"), ("before", "called_before")]);
+        }
+        for (folder, name) in lookups {
+            link(&format!("target/names_{folder}"), name);
         }
     } else {
-        link("target", "speed_exports");
+        link(".", "speed_exports");
     }
 }

@@ -1,4 +1,4 @@
-//! The lookup of a feature's name as it is and as it was before R-2 (both proved), and plain Rust's `match`, on the same words in one run.
+//! The lookup of a feature's name as it is and, with the feature `before`, as it was before R-2 (both proved), and plain Rust's `match`, on the same words in one run.
 mod common;
 #[allow(dead_code)]
 mod plain;
@@ -9,10 +9,14 @@ use std::time::Instant;
 
 // inlined in the exported function (`names`), and a function of its own, called by it (`called`)
 extern "C" {
-    fn names_before(s: *const u8, n: usize) -> u32;
     fn names_now(s: *const u8, n: usize) -> u32;
-    fn called_before(s: *const u8, n: usize) -> u32;
     fn called_now(s: *const u8, n: usize) -> u32;
+}
+
+#[cfg(feature = "before")]
+extern "C" {
+    fn names_before(s: *const u8, n: usize) -> u32;
+    fn called_before(s: *const u8, n: usize) -> u32;
 }
 
 /// Called through a pointer, as the others are.
@@ -77,24 +81,28 @@ fn words(count: usize, mut next: impl FnMut(usize) -> Vec<u8>) -> Words {
 
 type Lookup = unsafe extern "C" fn(*const u8, usize) -> u32;
 
-const LOOKUPS: [Lookup; 5] = [names_before, names_now, called_before, called_now, by_match];
+#[cfg(feature = "before")]
+const LOOKUPS: [Lookup; 5] = [by_match, names_now, called_now, names_before, called_before];
+#[cfg(not(feature = "before"))]
+const LOOKUPS: [Lookup; 3] = [by_match, names_now, called_now];
 
 fn time(kind: &str, mut w: Words, r: &mut Rng) {
-    let mut times = [vec![], vec![], vec![], vec![], vec![]];
-    let mut order = [0, 1, 2, 3, 4];
+    let mut times = LOOKUPS.map(|_| vec![]);
+    let mut order: Vec<usize> = (0..LOOKUPS.len()).collect();
     for _ in 0..300 {
         // the words in a new order for each round, the same for all lookups, so that no branch is predicted from the last round; the lookups in a new order too
         for i in (1..w.at.len()).rev() { let j = r.below(i + 1); w.at.swap(i, j); }
         for i in (1..order.len()).rev() { let j = r.below(i + 1); order.swap(i, j); }
-        for k in order {
+        for &k in &order {
             let (text, lookup) = (w.text.as_ptr(), black_box(LOOKUPS[k]));
             let t = Instant::now();
             for &(from, n) in &w.at { black_box(unsafe { lookup(black_box(text.add(from)), n) }); }
             times[k].push(t.elapsed().as_nanos() as f64 / w.at.len() as f64);
         }
     }
-    let [b, n, cb, cn, p] = times.map(median);
-    println!("names, {kind}: plain Rust {p:.1} ns; inlined: before {b:.1}, now {n:.1}, now / plain Rust {:.2}; called: before {cb:.1}, now {cn:.1}, now / plain Rust {:.2}", n / p, cn / p);
+    let t = times.map(median);
+    let before = |k: usize| t.get(k).map_or(String::new(), |b| format!("before {b:.1}, "));
+    println!("names, {kind}: plain Rust {:.1} ns; inlined: {}now {:.1}, now / plain Rust {:.2}; called: {}now {:.1}, now / plain Rust {:.2}", t[0], before(3), t[1], t[1] / t[0], before(4), t[2], t[2] / t[0]);
 }
 
 fn same(w: &[u8]) {

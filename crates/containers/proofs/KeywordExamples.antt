@@ -1,9 +1,9 @@
 -- The added keyword, by computation: where it can stand, and what is none. Assumes nothing.
 use mathlib.Core.Path.{◌≡◌, refl, ap, sym, ◌∙◌}
-use Prim.Native.Nat.{ℕ, suc, ◌+◌}
+use Prim.Native.Nat.{ℕ, ◌+◌}
 use native.Mathlib.Omega.{arith}
 use mathlib.Core.List.{List, [], ◌∷◌, ◌++◌}
-use mathlib.Core.Option.{Option, some, none}
+use mathlib.Core.Option.{some, none}
 use lib.ListN.{length, drop, length-append}
 use Rattle.ascii.specs.Bytes.{lower}
 use Rattle.ascii.specs.Literals.{text}

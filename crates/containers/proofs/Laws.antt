@@ -1,7 +1,7 @@
 -- The laws of a frame's attributes, for the crates above, which open no definition of this crate. Assumes nothing.
 use mathlib.Core.Path.{◌≡◌, refl, ap, ◌∙◌, sym}
 use Prim.Native.Nat.{ℕ, ◌≤◌, ◌<◌}
-use mathlib.Core.List.{List, [], ◌∷◌, ◌++◌}
+use mathlib.Core.List.{List, [], ◌++◌}
 use mathlib.Core.Bool.{Bool, true, false, not, ◌&&◌, ◌||◌}
 use mathlib.Core.Option.{Option, some, none}
 use native.Mathlib.Omega.{arith}
@@ -23,7 +23,7 @@ use Rattle.origins.specs.Origins.OriginSaid.{says_empty, says_null, says_tuple, 
 use Rattle.allowlists.specs.Allowlists.{Allowlist, empty_list}
 use Rattle.allowlists.specs.Allowlists.Meaning.{src}
 use Rattle.allowlists.specs.Widening.{AsWide, AsWideOrOpened}
-use Rattle.allowlists.specs.Widening.AsWide.{neither, both}
+use Rattle.allowlists.specs.Widening.AsWide.{both}
 use Rattle.allowlists.specs.Widening.AsWideOrOpened.{as_wide}
 use Rattle.allowlists.proofs.Laws.{as-wide-self, from_empty}
 use Rattle.pieces.specs.Pieces.{words, has_keyword, entry_of}

@@ -1,7 +1,7 @@
 -- The container policy, sandboxed documents and the declared origin, in the terms of the code. Assumes nothing.
 use mathlib.Core.Path.{◌≡◌, refl, ap, ◌∙◌, sym}
 use Prim.Native.Nat.{ℕ, ◌+◌, ◌≤◌, ◌<◌}
-use mathlib.Core.List.{List, [], ◌++◌}
+use mathlib.Core.List.{List, ◌++◌}
 use mathlib.Core.Bool.{Bool, true, false, not, ◌&&◌, ◌||◌}
 use mathlib.Core.Option.{Option, some, none}
 use native.Mathlib.Omega.{arith}
@@ -12,38 +12,37 @@ use lib.Dec.{eqb}
 use borrow.Author.Tests.{not-true, not-false, eqb-true, eqb-false, eq-eqb, ne_eqb}
 use Rattle.ascii.specs.Bytes.{pick}
 use Rattle.ascii.specs.Literals.{text}
-use Rattle.ascii.specs.Classes.{in_class, outside}
+use Rattle.ascii.specs.Classes.{outside}
 use Rattle.ascii.specs.declared.Class.TheVariants.{Not}
 use Rattle.ascii.specs.declared.TextRange.{TextRange}
-use Rattle.features.specs.Features.{feature_count, name_of, default_of}
+use Rattle.features.specs.Features.{feature_count, default_of}
 use Rattle.features.specs.Features.Default.{star, self}
-use Rattle.features.specs.Answers.{name_bytes, default_in, IsName}
+use Rattle.features.specs.Answers.{default_in, IsName}
 use Rattle.features.specs.declared.Name.{Name}
 use Rattle.features.specs.declared.DefaultOf.{DefaultOf}
 use Rattle.features.specs.declared.DefaultOf.TheVariants as default
 use Rattle.origins.specs.Origins.{Origin, TupleOrigin, OriginSaid, origin_of}
-use Rattle.origins.specs.Origins.Origin.{tuple, fresh}
+use Rattle.origins.specs.Origins.Origin.{tuple}
 use Rattle.origins.specs.Origins.OriginSaid.{says_empty, says_null, says_tuple, no_origin}
 use Rattle.origins.specs.Answers.{origin_as, tuple_range, tuple_in}
 use Rattle.origins.specs.declared.OriginText.{OriginText}
 use Rattle.origins.specs.declared.OriginText.TheVariants as said
 use Rattle.origins.specs.declared.TupleRange.{TupleRange}
 use Rattle.origins.proofs.Laws.{tuple-range}
-use Rattle.allowlists.specs.Allowlists.{Allowlist, empty_list, list_admits, some_admits}
+use Rattle.allowlists.specs.Allowlists.{empty_list, list_admits, some_admits}
 use Rattle.allowlists.specs.Allowlists.Allowlist.{all}
 use Rattle.allowlists.specs.Allowlists.Meaning.{src}
 use Rattle.allowlists.specs.Answers.{admission_as}
 use Rattle.allowlists.specs.declared.Admission.{Admission}
 use Rattle.allowlists.specs.declared.Admission.TheVariants as admission
 use Rattle.allowlists.proofs.Laws.{some-admits, none-admits, all-admits, empty-list}
-use Rattle.pieces.specs.Pieces.{words, has_keyword, entry_of}
+use Rattle.pieces.specs.Pieces.{words, has_keyword}
 use Rattle.pieces.specs.Words.{entry_list}
 use Rattle.pieces.specs.Answers.{bare_in, words_in, entry_in, entry_at, IsEntries}
 use Rattle.pieces.specs.declared.EntryFound.{EntryFound}
 use Rattle.pieces.specs.declared.EntryFound.TheVariants as entry
 use Rattle.pieces.specs.declared.Bare.TheVariants as bare
 use Rattle.pieces.proofs.Laws.{entry-same, range_same}
-use Rattle.containers.specs.Attributes.{Attributes}
 use Rattle.containers.specs.Policies.{is_semicolon, fullscreen, plugins, entry_else, allowed_fullscreen, has_default_star, keyword_of, keyword_stands, sandbox_closes, closes_plugins, attribute_policy}
 use Rattle.containers.specs.Sandboxes.{sandbox_words, allow_same_origin, without_same_origin, is_sandboxed, src_origin, fresh_if, declared_origin}
 use Rattle.containers.specs.Answers.{policy_in, unnamed_as, policy_as, feature_as, policy_at, IsAllowName, IsPolicies, IsSandboxed, declared_in, declared_as, IsDeclared}

@@ -1,5 +1,5 @@
 -- Enabled at a fresh origin is Enabled at every one; what isn't is left, at another origin than the own one, to the declared list: a part of the laws of this crate. Assumes nothing.
-use mathlib.Core.Path.{◌≡◌, refl, ap, ◌∙◌, sym}
+use mathlib.Core.Path.{◌≡◌, refl, ◌∙◌}
 use Prim.Native.Nat.{ℕ, ◌/◌, ◌%◌, ◌^◌}
 use mathlib.Core.Bool.{Bool, true, false}
 use mathlib.Core.Option.{Option, some, none}
@@ -13,7 +13,7 @@ use Rattle.origins.specs.Matching.{same_origin}
 use Rattle.origins.proofs.Laws.{fresh-right}
 use Rattle.allowlists.specs.Allowlists.{Allowlist, list_admits, some_admits}
 use Rattle.allowlists.specs.Allowlists.Allowlist.{all}
-use Rattle.allowlists.specs.Answers.{admission_as, admission_in}
+use Rattle.allowlists.specs.Answers.{admission_in}
 use Rattle.allowlists.specs.declared.Admission.{Admission}
 use Rattle.allowlists.specs.declared.Admission.TheVariants as admission
 use Rattle.allowlists.proofs.Laws.{all-admits, some-admits, none-admits}

@@ -1,5 +1,5 @@
 -- 01, "How a decision falls", told what the lists answer: rows of its three sentences, by computation.
-use Rattle.std.specs.Prelude.{◌≡◌, refl, List, [], ◌∷◌, Bool, true, false}
+use Rattle.std.specs.Prelude.{◌≡◌, refl, [], ◌∷◌, Bool, true, false}
 use Rattle.std.proofs.Math.Option.{Option, some, none}
 use Rattle.ascii.specs.Texts.{every}
 use Rattle.features.specs.Features.{Default}

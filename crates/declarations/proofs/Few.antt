@@ -1,5 +1,5 @@
 -- How many expressions a header can declare: a part of the laws of this crate. Assumes nothing.
-use mathlib.Core.Path.{◌≡◌, refl, ap, ◌∙◌, sym}
+use mathlib.Core.Path.{◌≡◌, refl, ap, ◌∙◌}
 use Prim.Native.Nat.{ℕ, ◌+◌, ◌*◌, ◌≤◌}
 use mathlib.Core.List.{List, [], ◌∷◌, map}
 use mathlib.Core.Bool.{Bool}
@@ -8,17 +8,16 @@ use native.Mathlib.Omega.{arith}
 use lib.ListN.{length}
 use Rattle.ascii.proofs.Clash.{clash}
 use Rattle.features.specs.Features.{name_of}
-use Rattle.origins.specs.Expressions.{SourceExpression, expression_of}
+use Rattle.origins.specs.Expressions.{SourceExpression}
 use Rattle.origins.proofs.Laws.{expression-long}
 use Rattle.items.specs.Items.{Item}
-use Rattle.items.specs.Items.Item.{string}
 use Rattle.items.proofs.Bytes.{item_bytes, string_bytes}
 use Rattle.dictionaries.specs.Dictionaries.{Value, members}
 use Rattle.dictionaries.specs.Dictionaries.Value.{one, many}
 use Rattle.dictionaries.specs.Lookup.{last_value_in}
 use Rattle.dictionaries.proofs.Bytes.{items_bytes, bytes-first, last-bytes}
 use Rattle.allowlists.specs.Allowlists.{Allowlist, Meaning, with_source, sources_of, allowlist_of}
-use Rattle.allowlists.specs.Allowlists.Allowlist.{all, listed}
+use Rattle.allowlists.specs.Allowlists.Allowlist.{listed}
 use Rattle.allowlists.specs.Allowlists.Meaning.{star, self, src, source, nothing}
 use Rattle.allowlists.proofs.Laws.{listed-sources, sources-nil, sources-cons, with-star, with-self, with-src, with-source, with_nothing}
 use Rattle.declarations.specs.Declarations.{item_meaning, items_list, lone_declares, value_declares, last_declares, declares}

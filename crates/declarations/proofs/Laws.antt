@@ -2,15 +2,13 @@
 use mathlib.Core.Path.{◌≡◌, refl, ap, ◌∙◌, sym}
 use Prim.Native.Nat.{ℕ, ◌≤◌}
 use mathlib.Core.List.{List, [], ◌∷◌, ◌++◌, map}
-use mathlib.Core.Bool.{Bool, true, false, not, ◌||◌}
+use mathlib.Core.Bool.{Bool, true, false, not}
 use mathlib.Core.Option.{Option, some, none}
-use Rattle.ascii.specs.Bytes.{pick}
 use Rattle.ascii.proofs.Clash.{clash}
 use Rattle.features.specs.Features.{feature_count, name_of}
 use Rattle.features.proofs.Laws.{name-none}
 use Rattle.origins.specs.Origins.{Origin}
 use Rattle.origins.specs.Origins.Origin.{opaque, fresh}
-use Rattle.origins.specs.Expressions.{SourceExpression}
 use Rattle.origins.specs.Matching.{same_origin}
 use Rattle.origins.proofs.Laws.{fresh-right}
 use Rattle.items.specs.Items.{Item}
@@ -19,13 +17,13 @@ use Rattle.dictionaries.specs.Dictionaries.Value.{one, many}
 use Rattle.dictionaries.specs.Lookup.{last_value_in, is_some}
 use Rattle.dictionaries.specs.OneItemMore.{OneItemMore}
 use Rattle.dictionaries.proofs.Keys.{no-empty-key}
-use Rattle.dictionaries.proofs.Laws.{some-is, empty-members, last-of-empty, last-of-none, Grown, LastGrown, last-grown}
+use Rattle.dictionaries.proofs.Laws.{some-is, empty-members, last-of-empty, last-of-none, Grown, last-grown}
 use Rattle.dictionaries.proofs.Laws.Grown.{same, grown}
 use Rattle.allowlists.specs.Allowlists.{Allowlist, Meaning, allowlist_of, list_admits, some_admits}
-use Rattle.allowlists.specs.Allowlists.Allowlist.{all, listed}
+use Rattle.allowlists.specs.Allowlists.Allowlist.{all}
 use Rattle.allowlists.specs.Allowlists.Meaning.{star, self, src, source, nothing}
 use Rattle.allowlists.specs.Widening.{Wider, AsWide}
-use Rattle.allowlists.specs.Widening.AsWide.{neither, both}
+use Rattle.allowlists.specs.Widening.AsWide.{both}
 use Rattle.allowlists.proofs.Laws.{some-admits, none-admits, meaning-wider, as-wide-self, fresh-all, opaque-all}
 use Rattle.declarations.specs.Declarations.{item_meaning, items_list, lone_declares, value_declares, last_declares, declares, is_malformed, declared_admits}
 

@@ -9,17 +9,17 @@ use Rattle.ascii.specs.Literals.{text}
 use Rattle.ascii.specs.Texts.{same_by}
 use Rattle.ascii.proofs.Clash.{clash}
 use Rattle.features.specs.Features.{name_of}
-use Rattle.origins.specs.Expressions.{SourceExpression, expression_of}
+use Rattle.origins.specs.Expressions.{SourceExpression}
 use Rattle.origins.specs.NormalForms.{GoodExpression, expression_text}
 use Rattle.origins.proofs.Laws.{expression-good, expression-back}
 use Rattle.items.specs.Items.{Item}
-use Rattle.items.specs.Items.Item.{token, string, other}
+use Rattle.items.specs.Items.Item.{token, string}
 use Rattle.dictionaries.specs.Dictionaries.{Value, Plain, members}
 use Rattle.dictionaries.specs.Dictionaries.Value.{one, many}
 use Rattle.dictionaries.specs.Lookup.{last_value_in}
 use Rattle.dictionaries.specs.Written.{All}
 use Rattle.dictionaries.specs.Written.All.{empty, and}
-use Rattle.allowlists.specs.Allowlists.{Allowlist, Meaning, source_meaning, is_src, has_src, with_source, sources_of, allowlist_of}
+use Rattle.allowlists.specs.Allowlists.{Allowlist, Meaning, is_src, has_src, with_source, sources_of, allowlist_of}
 use Rattle.allowlists.specs.Allowlists.Allowlist.{all, listed}
 use Rattle.allowlists.specs.Allowlists.Meaning.{star, self, src, source, nothing}
 use Rattle.allowlists.proofs.Laws.{sources-plain, self-sources-plain, star-alone, listed-sources, listed-src, has-nil, has-cons, source-some, sources-nil, sources-cons, with-star, with-self, with-src, with-source, with_nothing}

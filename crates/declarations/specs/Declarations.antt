@@ -1,5 +1,5 @@
 -- 01, "Header and attribute": what the items of a header mean, and what the header declares.
-use Rattle.std.specs.Prelude.{ℕ, List, [], ◌∷◌, map, Bool, true, false, not}
+use Rattle.std.specs.Prelude.{ℕ, List, [], ◌∷◌, map, Bool, false, not}
 use Rattle.std.proofs.Math.Option.{Option, some, none}
 use Rattle.ascii.specs.Bytes.{pick}
 use Rattle.ascii.specs.Literals.{text}

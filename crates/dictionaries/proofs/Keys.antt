@@ -1,5 +1,5 @@
 -- No member of a dictionary has an empty key: a part of the laws of this crate. Assumes nothing.
-use mathlib.Core.Path.{◌≡◌, refl, ap, ◌∙◌, sym}
+use mathlib.Core.Path.{◌≡◌, refl, ap, ◌∙◌}
 use Prim.Native.Nat.{ℕ, zero, suc}
 use mathlib.Core.List.{List, [], ◌∷◌, ◌++◌}
 use mathlib.Core.Bool.{Bool, true, false}
@@ -7,15 +7,14 @@ use mathlib.Core.Option.{Option, some, none}
 use Rattle.ascii.proofs.Clash.{clash}
 use lib.ListN.{length, drop}
 use lib.Dec.{eqb}
-use Rattle.ascii.specs.Bytes.{pick, is_space, is_blank, is_key_start, is_key_byte}
-use Rattle.ascii.specs.Texts.{same_by, same_bytes}
-use Rattle.ascii.specs.Reading.{Parsed, Step, head_of, head_is, run_of, past, is_empty, next, skip, after, mapped, going, adding, on_step, turns}
+use Rattle.ascii.specs.Bytes.{pick, is_space, is_blank}
+use Rattle.ascii.specs.Texts.{same_bytes}
+use Rattle.ascii.specs.Reading.{Parsed, Step, head_of, past, is_empty, next, skip, after, mapped, going, adding, on_step, turns}
 use Rattle.ascii.specs.Reading.Parsed.{parsed, malformed}
 use Rattle.ascii.specs.Reading.Step.{more, done, fail}
-use Rattle.ascii.proofs.Reading.{key-starts}
 use Rattle.items.specs.Items.{key_of}
 use Rattle.items.proofs.Laws.{key-some}
-use Rattle.dictionaries.specs.Dictionaries.{Value, Placed, Member, Plain, assigned_of, member_of, parted_of, dict_turn, read_all, data_of, plain, plains, plainly, members}
+use Rattle.dictionaries.specs.Dictionaries.{Value, Placed, Member, assigned_of, member_of, parted_of, dict_turn, read_all, data_of, plain, plains, plainly, members}
 use Rattle.dictionaries.specs.Lookup.{into, later, last_value_in}
 
 -- a member's key is not empty

@@ -17,7 +17,7 @@ use Rattle.ascii.proofs.Clash.{clash}
 use Rattle.items.specs.Items.{Item, Parameter, params_of}
 use Rattle.items.specs.Found.{item_in}
 use Rattle.items.specs.declared.ItemFound.{ItemFound}
-use Rattle.dictionaries.specs.Dictionaries.{plains, data_of, dictionary, Member, members, Plain, plainly, read_all, Value}
+use Rattle.dictionaries.specs.Dictionaries.{plains, data_of, dictionary, members, Plain, plainly, read_all, Value}
 use Rattle.dictionaries.specs.Dictionaries.Value.{one, many}
 use Rattle.dictionaries.specs.Lookup.{into, later, last_value_in, last_parameters_in, last_found, cursor_at, items_from, value_in, parameters_in, found_in, found_parameters_in, is_some, low_next, high_next}
 use Rattle.dictionaries.specs.Members.{members_from, with_first, member_in, next_in, next_at, fold_members}

@@ -3,7 +3,7 @@ use mathlib.Core.Path.{◌≡◌, refl}
 use Prim.Native.Nat.{ℕ, zero, suc, ◌+◌, ◌≤◌}
 use mathlib.Core.List.{List, [], ◌∷◌, ◌++◌}
 use mathlib.Core.Bool.{Bool, true, false}
-use mathlib.Core.Option.{Option, some, none}
+use mathlib.Core.Option.{some, none}
 use native.Mathlib.Omega.{arith}
 use lib.ListN.{length, drop, length-drop}
 use lib.Dec.{eqb}
@@ -11,7 +11,6 @@ use Rattle.ascii.specs.Bytes.{pick, is_space, is_blank}
 use Rattle.ascii.specs.Reading.{Parsed, Step, head_of, is_empty, skip, past, next, going, adding, on_step, turns}
 use Rattle.ascii.specs.Reading.Parsed.{parsed, malformed}
 use Rattle.ascii.specs.Reading.Step.{more, done, fail}
-use Rattle.ascii.proofs.Clash.{clash}
 use Rattle.ascii.proofs.Suffixes.{suffix-length, suffix-past}
 use Rattle.dictionaries.specs.Dictionaries.{Value, Member, Plain, value_items, member_of, parted_of, dict_turn, read_all, data_of, plains, plainly, members}
 use Rattle.dictionaries.proofs.Bytes.{items_bytes, member-bytes}

@@ -1,5 +1,5 @@
 -- The last member of a key, and the items of a list one after the other: as data, and as the code's answers.
-use Rattle.std.specs.Prelude.{ℕ, zero, suc, ◌+◌, ◌-◌, ◌^◌, ◌≤◌, ◌<◌, ◌≡◌, List, [], ◌∷◌, ◌++◌, Bool, true, false, ◌||◌, length, drop, eqb}
+use Rattle.std.specs.Prelude.{ℕ, zero, suc, ◌-◌, ◌^◌, ◌≤◌, ◌<◌, ◌≡◌, List, [], ◌∷◌, ◌++◌, Bool, true, false, ◌||◌, length, drop, eqb}
 use Rattle.std.proofs.Math.Option.{Option, some, none}
 use Rattle.ascii.specs.Bytes.{pick, is_space}
 use Rattle.ascii.specs.Texts.{same_bytes}

@@ -1,14 +1,14 @@
 -- The origin at which a document arrives: its text copied, or the container's. Assumes nothing.
 use mathlib.Core.Path.{◌≡◌, refl, ap, sym, ◌∙◌}
-use Prim.Native.Nat.{ℕ, ◌+◌, ◌-◌, ◌≤◌, ◌<◌, ◌^◌}
+use Prim.Native.Nat.{ℕ, ◌≤◌, ◌<◌, ◌^◌}
 use native.Mathlib.Omega.{arith}
-use mathlib.Core.List.{List, [], ◌∷◌, ◌++◌}
+use mathlib.Core.List.{List, []}
 use lib.ListN.{length, take, replicate, length-replicate}
 use Rattle.ascii.proofs.Clash.{clash}
-use Rattle.origins.specs.Origins.{Origin, OriginSaid, TupleOrigin, origin_of}
+use Rattle.origins.specs.Origins.{Origin, OriginSaid, origin_of}
 use Rattle.origins.specs.Origins.Origin.{tuple, opaque}
 use Rattle.origins.specs.Origins.OriginSaid.{says_empty, says_null, says_tuple, no_origin}
-use Rattle.origins.specs.Answers.{origin_as, origin_in, tuple_in, tuple_range}
+use Rattle.origins.specs.Answers.{origin_as, origin_in, tuple_range}
 use Rattle.origins.specs.declared.OriginText.{OriginText}
 use Rattle.origins.specs.declared.OriginText.TheVariants as said
 use Rattle.origins.specs.declared.OriginRange.{OriginRange}
@@ -16,10 +16,9 @@ use Rattle.origins.specs.declared.OriginRange.TheVariants as range
 use Rattle.origins.specs.declared.TupleRange.{TupleRange}
 use Rattle.origins.proofs.Laws.{tuple-range, tuple-length, tuple-text, text-empty}
 use Rattle.document_model.specs.Model.{arrives_at}
-use Rattle.document_records.specs.Slots.{origin_bytes, origin_by}
+use Rattle.document_records.specs.Slots.{origin_bytes}
 use Rattle.document_loads.specs.Slots.{filled, KeptOrigin}
-use Rattle.document_loads.specs.Loads.{IsAt, Arrives}
-use Rattle.document_loads.specs.declared.Arrival.{Arrival}
+use Rattle.document_loads.specs.Loads.{Arrives}
 use Rattle.document_loads.proofs.Putting.{filled-long, filled-front, filled_none}
 
 arrives-empty : (x : OriginSaid) (own : Origin) (n : ℕ) → said.Empty ≡ origin_as x → arrives_at x own n ≡ own

@@ -1,5 +1,5 @@
 -- What a load makes of texts and of its container's slot, in the terms of the model of the calls.
-use Rattle.std.specs.Prelude.{ℕ, ◌+◌, ◌≤◌, ◌<◌, ◌^◌, ◌≡◌, List, length, take}
+use Rattle.std.specs.Prelude.{ℕ, ◌≤◌, ◌<◌, ◌^◌, ◌≡◌, List, length, take}
 use Rattle.origins.specs.Origins.{Origin, origin_of}
 use Rattle.origins.specs.Answers.{origin_in}
 use Rattle.origins.specs.declared.OriginRange.{OriginRange}

@@ -1,5 +1,5 @@
 -- What a load writes into a slot: `written` says every byte, by the document of the model and its header; what is not written stays.
-use Rattle.std.specs.Prelude.{ℕ, ◌*◌, ◌+◌, ◌≤◌, ◌<◌, ◌^◌, ◌≡◌, Bool, true, false, List, [], ◌∷◌, leb, length, take, replicate}
+use Rattle.std.specs.Prelude.{ℕ, ◌*◌, ◌≤◌, ◌<◌, ◌^◌, ◌≡◌, Bool, true, false, List, [], ◌∷◌, leb, length, take, replicate}
 use Rattle.ascii.specs.Bytes.{pick}
 use Rattle.writing.specs.Writing.{with_text}
 use Rattle.limits.specs.Limits.{text_bytes, document_limit}

@@ -1,6 +1,6 @@
 -- Claim 2: one item, word or keyword more, and what was Enabled stays Enabled. Each definition that `outcome` is made of has one lemma here, of the same shape. Assumes nothing.
 use mathlib.Core.Path.{◌≡◌, refl, sym, ap, subst, ◌∙◌}
-use Prim.Native.Nat.{ℕ, zero, suc, ◌+◌}
+use Prim.Native.Nat.{ℕ, zero, suc}
 use mathlib.Core.Bool.{Bool, true, false, not, ◌||◌}
 use mathlib.Core.Option.{Option, none, some}
 use mathlib.Core.List.{List, [], ◌∷◌, ◌++◌}
@@ -30,7 +30,6 @@ use Rattle.containers.specs.Widening.KeywordMore.{keyword_more}
 use Rattle.containers.proofs.Laws.{word-as-wide, word-sandboxed, word-declared, keyword-opens, keyword-sandboxed, keyword-declared}
 use Rattle.decisions.specs.Masks.{decision_at}
 use Rattle.decisions.specs.Policies.{question_in, inherited_in, enabled_mask, forecast}
-use Rattle.decisions.specs.Widening as widening
 use Rattle.decisions.specs.Widening.{Stays, WiderPolicy, WiderFrame}
 use Rattle.decisions.proofs.Laws.{stays-self, question-in-stays, inherited-in-stays, mask-stays, forecast-stays}
 use Rattle.decisions.proofs.Laws as laws

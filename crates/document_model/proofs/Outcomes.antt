@@ -14,7 +14,7 @@ use Rattle.containers.specs.Attributes.{Attributes}
 use Rattle.decisions.specs.Decisions.{Decision, inherited_top}
 use Rattle.decisions.specs.Masks.{mask_of}
 use Rattle.decisions.specs.Policies.{inherited_in}
-use Rattle.document_model.specs.Model.{Text, Identity, Document, Table, declared_by, policy_of, frame_of, is_short, find, remaining, removed_count, Call, top_load, framed_load, unload, question, enabled_features, listing, forecast_of, Answer, loaded, removed, decision, features, serials, Outcome, refuse, accept, refuse_unless, with_document, texts_fit, load, top_identity, framed_identity, top_document, framed_document, fitting_outcome, outcome}
+use Rattle.document_model.specs.Model.{Text, Identity, Document, Table, declared_by, policy_of, frame_of, is_short, find, remaining, removed_count, top_load, framed_load, unload, question, enabled_features, listing, forecast_of, loaded, removed, decision, features, serials, Outcome, refuse, accept, refuse_unless, with_document, texts_fit, load, top_identity, framed_identity, top_document, framed_document, fitting_outcome, outcome}
 use Rattle.document_model.proofs.Tables.{In, Finds, missing, hit, finds}
 
 unless : (P : Outcome → Type 0) (n : Refusal) (b : Bool) (k : Outcome) → ((m : Refusal) → P (refuse m)) → (b ≡ true → P k) → P (refuse_unless n b k)

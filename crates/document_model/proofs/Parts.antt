@@ -3,10 +3,10 @@ use mathlib.Core.Path.{◌≡◌, refl}
 use Prim.Native.Nat.{ℕ, ◌<◌}
 use mathlib.Core.List.{List, [], ◌∷◌, ◌++◌}
 use lib.ListN.{length, drop}
-use mathlib.Core.Bool.{Bool, true, false}
+use mathlib.Core.Bool.{false}
 use mathlib.Core.Option.{some}
 use Rattle.features.specs.Features.{feature_count}
-use Rattle.origins.specs.Origins.{Origin, OriginSaid}
+use Rattle.origins.specs.Origins.{OriginSaid}
 use Rattle.origins.specs.Origins.Origin.{opaque}
 use Rattle.declarations.specs.Declarations.{declares}
 use Rattle.containers.specs.Attributes.{Attributes}

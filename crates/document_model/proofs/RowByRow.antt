@@ -1,21 +1,19 @@
 -- What each call answers and leaves, row by row of document 01's order: a part of the laws of this crate. Assumes nothing.
-use mathlib.Core.Path.{◌≡◌, refl, ap, ◌∙◌, sym}
-use Prim.Native.Nat.{ℕ, suc, ◌+◌, ◌≤◌, ◌<◌}
+use mathlib.Core.Path.{◌≡◌, ap}
+use Prim.Native.Nat.{ℕ, suc, ◌≤◌, ◌<◌}
 use mathlib.Core.List.{List, [], ◌∷◌, ◌++◌}
 use mathlib.Core.Bool.{Bool, true, false, not, ◌&&◌, ◌||◌}
-use mathlib.Core.Option.{Option, some, none}
+use mathlib.Core.Option.{some, none}
 use lib.ListN.{length}
-use lib.Dec.{leb, ltb}
 use borrow.Author.Tests.{le-leb, lt-leb, le-ltb, lt-ltb}
-use Rattle.limits.specs.Limits.{text_bytes, document_limit, last_serial}
-use Rattle.limits.specs.declared.Refusal.{Refusal}
+use Rattle.limits.specs.Limits.{document_limit, last_serial}
 use Rattle.limits.specs.declared.Refusal.TheVariants.{NotLoaded, NoSuchFeature, BadOrigin, TooLong, Sandbox, Full, Spent, Small}
 use Rattle.features.specs.Features.{feature_count}
-use Rattle.origins.specs.Origins.{Origin, OriginSaid, origin_of}
+use Rattle.origins.specs.Origins.{origin_of}
 use Rattle.containers.specs.Attributes.{Attributes}
 use Rattle.declarations.specs.Declarations.{is_malformed}
 use Rattle.decisions.specs.Policies.{question_in, enabled_mask, forecast}
-use Rattle.document_model.specs.Model.{Text, is_good_origin, is_good_at_top, is_null, asked_at, Identity, Document, policy_of, frame_sandboxed, frame_of, Table, find, remaining, removed_count, serials_beneath, stored, Call, top_load, framed_load, unload, question, enabled_features, listing, forecast_of, Answer, refused, loaded, removed, decision, features, serials, Outcome, refuse, accept, refuse_unless, with_document, is_short, texts_fit, load, top_identity, framed_identity, top_document, framed_document, fitting_outcome, outcome, answer_in, table_in, answer_to, table_left}
+use Rattle.document_model.specs.Model.{Text, is_good_origin, is_good_at_top, is_null, asked_at, Identity, Document, policy_of, frame_sandboxed, frame_of, Table, find, remaining, removed_count, serials_beneath, stored, Call, top_load, framed_load, unload, question, enabled_features, listing, forecast_of, loaded, removed, decision, features, serials, Outcome, refuse, accept, refuse_unless, with_document, is_short, texts_fit, load, top_identity, framed_identity, top_document, framed_document, fitting_outcome, outcome, answer_in, table_in, answer_to, table_left}
 
 -- a call, by its outcome
 pub answer-of : (c : Call) (t : Table) (x : Outcome) → outcome c t ≡ x → answer_to c t ≡ answer_in x

@@ -1,9 +1,9 @@
 -- What a slot says of its document, part by part, for the crates above, which open no definition of this crate. Assumes nothing.
-use mathlib.Core.Path.{◌≡◌, refl, ap, sym, ◌∙◌}
-use Prim.Native.Nat.{ℕ, ◌*◌, ◌≤◌, ◌<◌}
+use mathlib.Core.Path.{◌≡◌, refl, sym, ◌∙◌}
+use Prim.Native.Nat.{ℕ}
 use mathlib.Core.Bool.{Bool, true, false}
 use mathlib.Core.List.{List}
-use mathlib.Core.Option.{Option, none}
+use mathlib.Core.Option.{none}
 use lib.Dec.{ltb}
 use native.Mathlib.Omega.{arith}
 use lib.ListN.{length, get_or, length-take, length-drop}
@@ -14,7 +14,7 @@ use Rattle.features.specs.Features.{feature_count}
 use Rattle.decisions.specs.Masks.{decision_at}
 use Rattle.settled.specs.Settled.{declared_in}
 use Rattle.settled.proofs.Laws.{declared-past}
-use Rattle.document_model.specs.Model.{Document, values_from, policy_of}
+use Rattle.document_model.specs.Model.{values_from, policy_of}
 use Rattle.document_model.proofs.Laws.{values-at, values-past}
 use Rattle.document_records.specs.Slots.{inherited_place, depth_in, above_bytes, own_origin, is_sandboxed_in, settled_in, document_in, slot_policy, Kept}
 

@@ -6,12 +6,11 @@ use mathlib.Core.List.{List}
 use native.Mathlib.Omega.{arith}
 use lib.Dec.{eqb}
 use lib.ListN.{length, drop}
-use borrow.Author.Tests.{eq-eqb, ne_eqb}
 use Rattle.ascii.proofs.Clash.{clash}
 use Rattle.lent_bytes.specs.Numbers.{number_at, bytes_at, numbers_in}
 use Rattle.lent_bytes.proofs.Laws.{numbers-next, numbers-end}
 use Rattle.origins.specs.Origins.{Origin, OriginSaid, origin_of}
-use Rattle.origins.specs.Origins.Origin.{tuple, opaque, fresh}
+use Rattle.origins.specs.Origins.Origin.{tuple, opaque}
 use Rattle.origins.specs.Origins.OriginSaid.{says_empty, says_null, says_tuple, no_origin}
 use Rattle.origins.specs.Matching.{same_origin}
 use Rattle.origins.specs.Answers.{origin_as, origin_in, tuple_in, tuple_range}
@@ -25,7 +24,6 @@ use Rattle.document_model.specs.Model.{elem}
 use Rattle.document_model.proofs.Laws.{elem-first, elem_next, elem-nil}
 use Rattle.document_records.specs.Slots.{depth_place, opaque_place, above_place, own_text_place, own_length_place, sandboxed_place, is_sandboxed_in, above_bytes, own_text, own_origin, origin_by}
 use Rattle.document_records.specs.Records.{IsOwnRange, IsArriving}
-use Rattle.document_records.specs.declared.Arriving.{Arriving}
 
 -- the parts that are as long as a number says
 pub above-is : (slot u : List ℕ) (k n : ℕ) → k ≡ number_at slot depth_place → n ≡ k → u ≡ bytes_at slot above_place (4 * n) → u ≡ above_bytes slot

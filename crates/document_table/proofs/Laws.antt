@@ -1,25 +1,25 @@
 -- The laws of the table: here the documents at its places, a slot that is given away, and a new table; in Puts what each write leaves, in Sweeping an unload, in Prefixes that nothing past the table is read. Assumes nothing.
 use mathlib.Core.Path.{◌≡◌, refl, ap, sym, ◌∙◌, subst}
 use mathlib.Core.List.{List, [], ◌∷◌, ◌++◌}
-use mathlib.Core.Bool.{Bool, true, false, ◌||◌}
+use mathlib.Core.Bool.{Bool, ◌||◌}
 use mathlib.Core.Logic.{⊎_elim}
-use Prim.Native.Nat.{ℕ, zero, suc, ◌+◌, ◌-◌, ◌*◌, ◌^◌, ◌<◌, ◌≤◌}
+use Prim.Native.Nat.{ℕ, suc, ◌+◌, ◌<◌, ◌≤◌}
 use native.Mathlib.Nat.{eq-or-lt_of_le}
 use native.Mathlib.Numerals.{add-one}
 use native.Mathlib.Omega.{arith}
 use lib.Dec.{eqb}
-use lib.ListN.{length, get_or, take, drop, length-take, length-drop}
+use lib.ListN.{length, drop}
 use Rattle.writing.specs.Writing.{with_text}
 use Rattle.limits.specs.Limits.{document_limit, last_serial}
-use Rattle.lent_bytes.specs.Numbers.{number_at, bytes_of, numbers_in, with_number, bytes_at}
+use Rattle.lent_bytes.specs.Numbers.{bytes_of, numbers_in, with_number, bytes_at}
 use Rattle.lent_bytes.proofs.Laws.{bytes-long, put-long, put-past, get-here, number-below, part-here}
-use Rattle.document_model.specs.Model.{Document, new_table, values_from, elem, is_at_or_beneath}
+use Rattle.document_model.specs.Model.{new_table, values_from, elem, is_at_or_beneath}
 use Rattle.document_model.proofs.Laws.{at-or-beneath, values-at, values_length, values-none, values_same, values-snoc}
 use Rattle.document_records.specs.Slots.{slot_bytes, above_bytes, document_in, GoodSlot}
 use Rattle.document_records.proofs.Laws.{document-serial, document-above}
-use Rattle.document_table.specs.Layout.{mark_place, mark_bytes, mark, mark_in, count_place, last_place, slot_numbers_place, table_bytes, count_in, last_in, serial_at, slot_number, slot_place, slot_of, doc_at, docs_in, view, new_run, with_slot, pushed, loaded_run}
+use Rattle.document_table.specs.Layout.{mark_place, mark_bytes, mark, mark_in, count_place, last_place, slot_numbers_place, table_bytes, count_in, last_in, serial_at, slot_number, slot_place, slot_of, doc_at, docs_in, view, new_run, with_slot, loaded_run}
 use Rattle.document_table.specs.Tables.{Sound, IsSlot}
-use Rattle.document_table.proofs.Puts.{count-here, count-last, last-count, last-here, with-count, with-last, with-serial, with-number, with-here, with-other, pushed_long, pushed-count, pushed-last, pushed-here, pushed-other, pushed-number, pushed-mark, pushed-slot, pushed-past, behind-mark}
+use Rattle.document_table.proofs.Puts.{count-here, last-count, last-here, with-count, with-last, with-serial, with-number, with-here, with-other, pushed_long, pushed-count, pushed-last, pushed-here, pushed-other, pushed-number, pushed-mark, pushed-slot, pushed-past, behind-mark}
 
 -- ---- the document at a place
 

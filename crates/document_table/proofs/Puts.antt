@@ -1,16 +1,16 @@
 -- What a table says after each kind of write: what was put is read back, and all else is as it was. Assumes nothing.
-use mathlib.Core.Path.{◌≡◌, refl, ap, sym, ◌∙◌}
+use mathlib.Core.Path.{◌≡◌, refl, ◌∙◌}
 use mathlib.Core.List.{List, [], ◌∷◌}
 use mathlib.Core.Logic.{◌⊎◌, inl, inr, ⊎_elim}
 use mathlib.Core.Bool.{Bool, true, false}
 use Prim.Native.Nat.{ℕ, ◌+◌, ◌*◌, ◌^◌, ◌<◌, ◌≤◌}
 use native.Mathlib.Omega.{arith}
 use lib.Dec.{ltb}
-use lib.ListN.{length, get_or, drop}
+use lib.ListN.{length, drop}
 use borrow.Author.Tests.{ltb-true, ltb-false}
 use Rattle.writing.specs.Writing.{with_text}
 use Rattle.limits.specs.Limits.{document_limit, last_serial}
-use Rattle.lent_bytes.specs.Numbers.{number_at, bytes_of, with_number}
+use Rattle.lent_bytes.specs.Numbers.{bytes_of, with_number}
 use Rattle.lent_bytes.proofs.Laws.{bytes-long, put-long, put-past, get-below, get-above, get-here, number-here, number-below, number-above, part-here, part-below, part-above}
 use Rattle.document_records.specs.Slots.{slot_bytes}
 use Rattle.document_table.specs.Layout.{mark_place, mark_bytes, mark_in, count_place, last_place, serials_place, slot_numbers_place, slots_place, table_bytes, count_in, last_in, serial_at, slot_number, slot_place, slot_of, with_slot, pushed, moved}

@@ -2,11 +2,11 @@
 use mathlib.Core.Path.{◌≡◌, refl, ap, sym, ◌∙◌, subst}
 use mathlib.Core.List.{List, [], ◌∷◌, ◌++◌}
 use mathlib.Core.Bool.{Bool, true, false}
-use Prim.Native.Nat.{ℕ, zero, suc, ◌+◌, ◌-◌, ◌*◌, ◌^◌, ◌<◌, ◌≤◌}
+use Prim.Native.Nat.{ℕ, zero, suc, ◌+◌, ◌-◌, ◌^◌, ◌<◌, ◌≤◌}
 use native.Mathlib.Numerals.{add-one}
 use native.Mathlib.Omega.{arith}
 use lib.Dec.{eqb}
-use lib.ListN.{length, get_or, drop, set, length-append, length-replicate}
+use lib.ListN.{length, drop, set, length-append, length-replicate}
 use borrow.Author.Tests.{eqb-true, eqb-false, eq-eqb, ne_eqb}
 use Rattle.ascii.specs.Bytes.{pick}
 use Rattle.limits.specs.Limits.{document_limit}
@@ -14,7 +14,7 @@ use Rattle.lent_bytes.specs.Numbers.{numbers_in, with_number, bytes_of}
 use Rattle.lent_bytes.proofs.Laws.{bytes-long, put-long, put-past}
 use Rattle.document_model.specs.Model.{Document, values_from, elem, is_at_or_beneath, remaining, removed_count, serials_beneath, stored}
 use Rattle.document_model.proofs.Laws.{remaining-none, remaining-goes, remaining-stays, removed-none, removed-goes, removed-stays, serials-none, serials-more, serials-same, stored-none, stored-snoc, values-none, values_same, values-snoc}
-use Rattle.document_records.specs.Slots.{above_bytes, GoodSlot}
+use Rattle.document_records.specs.Slots.{above_bytes}
 use Rattle.document_table.specs.Layout.{count_place, table_bytes, count_in, last_in, serial_at, slot_number, slot_of, doc_at, docs_in, moved, swept, removed_run}
 use Rattle.document_table.specs.Tables.{Sound, IsSlot, IsRemoved, no_serials, AreSerials}
 use Rattle.document_table.proofs.Laws.{doc-same, doc-serial, beneath-is}

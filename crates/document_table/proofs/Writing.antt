@@ -1,10 +1,10 @@
 -- What the functions that write the directory leave, in the terms of the code. Assumes nothing.
 use mathlib.Core.Path.{◌≡◌, refl, ap, sym, ◌∙◌}
-use mathlib.Core.List.{List, [], ◌∷◌, ◌++◌}
-use Prim.Native.Nat.{ℕ, suc, ◌+◌, ◌*◌, ◌≤◌, ◌<◌}
+use mathlib.Core.List.{List, [], ◌∷◌}
+use Prim.Native.Nat.{ℕ, ◌+◌, ◌*◌, ◌≤◌, ◌<◌}
 use native.Mathlib.Numerals.{add-one}
 use native.Mathlib.Omega.{arith}
-use lib.ListN.{length, get_or}
+use lib.ListN.{length}
 use Rattle.writing.specs.Writing.{with_text}
 use mathlib.Core.Bool.{true, false, ◌&&◌}
 use lib.Dec.{ltb}
@@ -16,7 +16,7 @@ use Rattle.lent_bytes.specs.Numbers.{bytes_of}
 use Rattle.lent_bytes.proofs.Laws.{put-nothing, with_append}
 use Rattle.document_model.specs.Model.{values_from}
 use Rattle.document_model.proofs.Laws.{values_length, values-none, values-snoc}
-use Rattle.document_table.specs.Layout.{mark_place, mark, count_place, last_place, serials_place, slot_numbers_place, table_bytes, count_in, last_in, serial_at, slot_number, new_run, pushed, can_push, moved}
+use Rattle.document_table.specs.Layout.{mark_place, mark, count_place, last_place, serials_place, slot_numbers_place, count_in, last_in, serial_at, slot_number, new_run, pushed, can_push, moved}
 
 -- the numbers of the slots, one by one
 pub free-none : (run : List ℕ) → run ≡ with_text run slot_numbers_place (values_from (λ n. n) 0 0)

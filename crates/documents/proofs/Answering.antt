@@ -1,11 +1,10 @@
 -- What each return of the calls answers, in the terms of the code. Assumes nothing.
 use mathlib.Core.Path.{◌≡◌, refl, ap, sym, ◌∙◌}
-use Prim.Native.Nat.{ℕ, suc, ◌-◌, ◌*◌, ◌≤◌, ◌<◌}
+use Prim.Native.Nat.{ℕ, suc, ◌*◌, ◌≤◌, ◌<◌}
 use native.Mathlib.Omega.{arith}
 use mathlib.Core.List.{List, [], ◌∷◌, ◌++◌}
 use mathlib.Core.Bool.{Bool, true, false, not}
-use mathlib.Core.Option.{some, none}
-use lib.Dec.{ltb}
+use mathlib.Core.Option.{none}
 use lib.ListN.{length, take}
 use borrow.Author.Tests.{lt-ltb, le-ltb}
 use Rattle.ascii.proofs.Clash.{clash}
@@ -13,14 +12,14 @@ use Rattle.limits.specs.declared.Refusal.{Refusal}
 use Rattle.limits.specs.declared.Refusal.TheVariants.{NotLoaded, NoSuchFeature, BadOrigin, Small}
 use Rattle.features.specs.Features.{feature_count}
 use Rattle.ascii.specs.Bytes.{pick}
-use Rattle.origins.specs.Origins.{Origin, OriginSaid, origin_of}
+use Rattle.origins.specs.Origins.{OriginSaid, origin_of}
 use Rattle.origins.specs.Origins.OriginSaid.{says_empty, says_null, says_tuple, no_origin}
 use Rattle.origins.specs.Answers.{origin_as}
 use Rattle.origins.specs.declared.OriginText.{OriginText}
-use Rattle.decisions.specs.Decisions.{Decision, decided}
-use Rattle.decisions.specs.Policies.{Policy, question_in as question_policy, enabled_mask}
+use Rattle.decisions.specs.Decisions.{decided}
+use Rattle.decisions.specs.Policies.{question_in as question_policy, enabled_mask}
 use Rattle.decisions.proofs.Everywhere.{decided-on, decided-off}
-use Rattle.document_model.specs.Model.{Text, Document, Table as ModelTable, new_table, is_good_origin, asked_at, policy_of, find, remaining, removed_count, serials_beneath, stored, Call, unload, question as ask, enabled_features, listing as list, Answer, decision, serials, refused, removed, features, Outcome, accept, refuse, outcome, answer_to, table_left}
+use Rattle.document_model.specs.Model.{Text, Document, Table as ModelTable, is_good_origin, asked_at, policy_of, remaining, removed_count, serials_beneath, stored, Call, unload, question as ask, enabled_features, listing as list, decision, serials, refused, removed, features, Outcome, accept, refuse, outcome, answer_to, table_left}
 use Rattle.document_model.proofs.Laws.{table-one, table_none, serials-ascend, stored-front}
 use Rattle.document_model.proofs.RowByRow.{answer-of, table_of, question_bad, question-feature, question-closed, question-answer, enabled-closed, enabled-answer, unload-closed, unload-answer, listing-closed, listing-small, listing-answer}
 use Rattle.document_records.specs.Slots.{own_origin, document_in, slot_policy}

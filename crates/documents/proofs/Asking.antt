@@ -1,6 +1,6 @@
 -- The question: what the two numbers of a slot say, and what is left for its lists, in the terms of the code. Assumes nothing.
 use mathlib.Core.Path.{◌≡◌, refl, ap, ◌∙◌, sym}
-use Prim.Native.Nat.{ℕ, ◌≤◌, ◌<◌}
+use Prim.Native.Nat.{ℕ, ◌<◌}
 use mathlib.Core.List.{List}
 use mathlib.Core.Bool.{Bool, true, false, not}
 use borrow.Author.Tests.{not-true, not-false}
@@ -9,7 +9,7 @@ use Rattle.ascii.specs.Texts.{same_bytes}
 use Rattle.ascii.proofs.Texts.{bytes_same}
 use Rattle.lent_bytes.specs.Numbers.{number_at}
 use Rattle.features.specs.Features.{feature_count}
-use Rattle.origins.specs.Origins.{Origin, OriginSaid, TupleOrigin, origin_of}
+use Rattle.origins.specs.Origins.{OriginSaid, TupleOrigin, origin_of}
 use Rattle.origins.specs.Origins.Origin.{tuple, opaque, fresh}
 use Rattle.origins.specs.Origins.OriginSaid.{says_empty, says_null, says_tuple, no_origin}
 use Rattle.origins.specs.Matching.{same_origin}
@@ -26,7 +26,7 @@ use Rattle.allowlists.proofs.Laws.{admission-back}
 use Rattle.decisions.specs.Decisions.{Decision, decided, by_list}
 use Rattle.decisions.specs.Decisions.Decision.{disabled, enabled}
 use Rattle.decisions.specs.Masks.{decision_at}
-use Rattle.decisions.specs.Policies.{Policy, question_in}
+use Rattle.decisions.specs.Policies.{question_in}
 use Rattle.decisions.proofs.Laws.{mask_at, enabled-at, disabled-question}
 use Rattle.decisions.proofs.Everywhere.{fresh-every, other-by-list, bit-says, bit-clear, bit-set, decided-off, decided-on}
 use Rattle.settled.specs.Settled.{declared_in}

@@ -6,7 +6,6 @@ use mathlib.Core.List.{List}
 use mathlib.Core.Bool.{Bool, true, false, not, ◌&&◌, ◌||◌}
 use mathlib.Core.Option.{some}
 use lib.ListN.{length}
-use lib.Dec.{leb}
 use borrow.Author.Tests.{le-leb, lt-leb, leb-true}
 use Rattle.ascii.proofs.Clash.{clash}
 use Rattle.limits.specs.Limits.{text_bytes, document_limit}
@@ -19,14 +18,14 @@ use Rattle.origins.specs.declared.OriginText.{OriginText}
 use Rattle.declarations.specs.Declarations.{is_malformed}
 use Rattle.containers.specs.Attributes.{Attributes}
 use Rattle.containers.specs.Answers.{IsSandboxed}
-use Rattle.document_records.specs.Slots.{is_sandboxed_in, depth_in, document_in, slot_policy}
-use Rattle.document_records.proofs.Laws.{document-sandboxed, document-depth, document-policy}
-use Rattle.document_model.specs.Model.{Text, Table as ModelTable, Document, policy_of, framed_load, refuse, is_null, is_short, find, frame_sandboxed, load as load_of, outcome, framed_document, framed_identity}
+use Rattle.document_records.specs.Slots.{is_sandboxed_in, document_in}
+use Rattle.document_records.proofs.Laws.{document-sandboxed, document-policy}
+use Rattle.document_model.specs.Model.{Text, Table as ModelTable, Document, framed_load, refuse, is_null, is_short, find, frame_sandboxed, load as load_of, outcome, framed_document, framed_identity}
 use Rattle.document_model.proofs.Parts.{frame-sandboxed, found-fewer, framed-identity, framed-document}
 use Rattle.document_model.proofs.RowByRow.{framed-long, framed_bad, framed_src, framed-closed, framed_sandbox, framed-load}
 use Rattle.document_table.specs.declared.Found.{Found}
 use Rattle.document_table.specs.declared.Found.TheVariants as found
-use Rattle.document_table.specs.Layout.{count_in, last_in, serial_at, slot_number, slot_of, doc_at, docs_in, view}
+use Rattle.document_table.specs.Layout.{count_in, last_in, serial_at, doc_at, docs_in, view}
 use Rattle.document_table.specs.Tables.{IsFound, IsSlot}
 use Rattle.document_table.proofs.Laws.{docs-length}
 use Rattle.document_loads.specs.declared.FrameMarks.{FrameMarks}
@@ -43,7 +42,7 @@ use Rattle.documents.specs.declared.LoadAnswer.TheVariants as loading
 use Rattle.documents.specs.declared.LoadAnswer.{LoadAnswer}
 use Rattle.documents.specs.declared.LoadedDocument.{LoadedDocument}
 use Rattle.documents.specs.Answers.{Valid, Loads}
-use Rattle.documents.specs.Steps.{is_bad, is_barred, IsRoom, GoodTexts, AreTexts, HasRoom, Places, HasPlace, IsFramePlace, IsFrameRoom, IsAdmitted, LoadsAt}
+use Rattle.documents.specs.Steps.{is_bad, is_barred, IsRoom, GoodTexts, AreTexts, Places, HasPlace, IsFramePlace, IsFrameRoom, IsAdmitted, LoadsAt}
 use Rattle.documents.proofs.Answering.{good-is, slot-document}
 use Rattle.documents.proofs.Loads.{refused-load, accepted-load}
 

@@ -8,7 +8,6 @@ use lib.ListN.{length}
 use lib.Dec.{leb}
 use borrow.Author.Tests.{leb-true}
 use Rattle.ascii.specs.Bytes.{pick, is_white}
-use Rattle.ascii.specs.Literals.{text}
 use Rattle.ascii.specs.Reading.{is_empty}
 use Rattle.ascii.specs.Texts.{every, prepended, cut_at}
 use Rattle.ascii.proofs.Bytes.{and_left, and_right}

@@ -1,25 +1,21 @@
 -- The words of a text, and pieces one after the other: a part of the laws of this crate. Assumes nothing.
 use mathlib.Core.Path.{◌≡◌, refl, ap, ◌∙◌, sym}
-use Prim.Native.Nat.{ℕ, suc, ◌+◌, ◌-◌, ◌≤◌, ◌<◌, min}
+use Prim.Native.Nat.{ℕ, ◌+◌, ◌-◌, ◌≤◌, ◌<◌, min}
 use mathlib.Core.List.{List, [], ◌∷◌}
 use mathlib.Core.Bool.{Bool, true, false, not}
-use mathlib.Core.Option.{Option, some, none}
 use native.Mathlib.Omega.{arith}
-use lib.ListN.{length, take, drop, length-drop, drop_of_length-le}
-use lib.Seq.{drop-drop}
+use lib.ListN.{length, drop, length-drop}
 use Rattle.ascii.specs.Bytes.{pick, is_white}
 use Rattle.ascii.specs.Classes.{in_class}
 use Rattle.ascii.specs.declared.Class.TheVariants.{White, Word}
 use Rattle.ascii.specs.declared.TextRange.{TextRange}
 use Rattle.ascii.specs.Reading.{head_of, is_empty, run_of, past}
-use Rattle.ascii.specs.Texts.{part_of, part_in, cut_at}
+use Rattle.ascii.specs.Texts.{part_of, cut_at}
 use Rattle.ascii.proofs.Clash.{clash}
 use Rattle.ascii.proofs.Reading.{run-from, run-part, empty-yes, empty-no}
 use Rattle.ascii.proofs.Texts.{rest_cut, cut-run, part-in}
-use Rattle.features.specs.Features.{feature_of}
-use Rattle.features.proofs.Laws.{no-feature}
-use Rattle.pieces.specs.Pieces.{non_empty, words, feature_in, further_words}
-use Rattle.pieces.specs.Answers.{is_word_byte, words_found, word_at, low_end, high_end, IsNextWord, past_first}
+use Rattle.pieces.specs.Pieces.{non_empty, words}
+use Rattle.pieces.specs.Answers.{is_word_byte, word_at, low_end, high_end, IsNextWord}
 use Rattle.pieces.specs.declared.WordFound.{WordFound}
 use Rattle.pieces.specs.declared.WordFound.TheVariants as word
 

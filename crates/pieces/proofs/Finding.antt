@@ -6,26 +6,26 @@ use mathlib.Core.Bool.{Bool, true, false, not}
 use mathlib.Core.Option.{Option, some, none}
 use native.Mathlib.Omega.{arith}
 use native.Mathlib.Numerals.{add-one}
-use lib.ListN.{length, get_or, set, take, drop, drop_of_length-le, length-drop, length-take, length-set}
+use lib.ListN.{length, get_or, set, drop, drop_of_length-le, length-drop, length-take}
 use lib.Seq.{drop-cons, get_or-set_same, get_or-set_other}
 use lib.Dec.{eqb, leb}
-use borrow.Author.Tests.{eq-eqb, ne_eqb, eqb-true, eqb-false, leb-true, leb-false}
+use borrow.Author.Tests.{eqb-true, eqb-false, leb-true, leb-false}
 use Rattle.ascii.specs.Bytes.{pick, is_white}
 use Rattle.ascii.specs.Classes.{in_class, outside}
 use Rattle.ascii.specs.declared.Class.{Class}
 use Rattle.ascii.specs.declared.TextRange.{TextRange}
 use Rattle.ascii.specs.Reading.{is_empty, run_of, past}
-use Rattle.ascii.specs.Texts.{part_of, part_in, cut_at}
+use Rattle.ascii.specs.Texts.{part_of, cut_at}
 use Rattle.ascii.proofs.Clash.{clash}
 use Rattle.ascii.proofs.Reading.{run-part}
 use Rattle.ascii.proofs.Texts.{part-in, rest_cut, cut-run, run-same, past_same}
 use Rattle.features.specs.Features.{feature_of, feature_count}
-use Rattle.features.specs.Answers.{lookup_in, number_in, IsLookup}
+use Rattle.features.specs.Answers.{lookup_in, number_in}
 use Rattle.features.specs.declared.Lookup.{Lookup}
 use Rattle.features.specs.declared.Lookup.TheVariants.{Known, Unknown}
 use Rattle.features.proofs.Laws.{number-known}
-use Rattle.pieces.specs.Pieces.{words, feature_in, is_the, is_for}
-use Rattle.pieces.specs.Answers.{is_word_byte, words_found, word_at, past_first, range_at, piece_as, feature_bound, IsPiece, piece_entry, last_at, entry_at}
+use Rattle.pieces.specs.Pieces.{words, feature_in, is_for}
+use Rattle.pieces.specs.Answers.{is_word_byte, words_found, word_at, past_first, range_at, piece_as, feature_bound, piece_entry, last_at, entry_at}
 use Rattle.pieces.specs.declared.WordFound.{WordFound}
 use Rattle.pieces.specs.declared.WordFound.TheVariants as word
 use Rattle.pieces.specs.declared.PieceFor.{PieceFor}

@@ -1,5 +1,5 @@
 -- The laws of texts of pieces, for the crates above, which open no definition of this crate; `Cutting`, `Listing` and `Added` are parts of them. Assumes nothing.
-use mathlib.Core.Path.{◌≡◌, refl, ap, ◌∙◌, sym}
+use mathlib.Core.Path.{◌≡◌, refl, ap, ◌∙◌}
 use Prim.Native.Nat.{ℕ, ◌<◌}
 use mathlib.Core.List.{List, [], ◌∷◌, ◌++◌, map}
 use mathlib.Core.Bool.{Bool, true, false, ◌||◌}
@@ -17,10 +17,10 @@ use Rattle.ascii.proofs.Bytes.{or-on, or-more}
 use Rattle.ascii.proofs.Texts.{bytes_same, same-bytes, cut-same}
 use Rattle.features.specs.Features.{feature_count, name_of, feature_of}
 use Rattle.features.proofs.Laws.{found, found_name}
-use Rattle.allowlists.specs.Allowlists.{Allowlist, Meaning, allowlist_of}
-use Rattle.allowlists.specs.Widening.{Wider, AsWide}
+use Rattle.allowlists.specs.Allowlists.{Meaning, allowlist_of}
+use Rattle.allowlists.specs.Widening.{Wider}
 use Rattle.allowlists.proofs.Laws.{meaning-wider}
-use Rattle.pieces.specs.Pieces.{words, pieces_of, feature_in, is_the, is_for, further_words, last_for, entry_of, has_keyword}
+use Rattle.pieces.specs.Pieces.{pieces_of, feature_in, is_the, is_for, further_words, last_for, entry_of, has_keyword}
 use Rattle.pieces.specs.Words.{word_meaning, entry_list}
 use Rattle.pieces.specs.Answers.{entry_in, entry_at, IsEntries}
 use Rattle.pieces.specs.OneWordMore.{OneWordMore}

@@ -3,18 +3,17 @@ use mathlib.Core.Path.{◌≡◌, refl, ap, ◌∙◌, sym}
 use Prim.Native.Nat.{ℕ}
 use mathlib.Core.List.{List, [], ◌∷◌, map}
 use mathlib.Core.Bool.{Bool, true, false, ◌||◌}
-use mathlib.Core.Option.{Option, some}
+use mathlib.Core.Option.{some}
 use lib.ListN.{drop}
 use Rattle.ascii.specs.Bytes.{pick}
 use Rattle.ascii.specs.Literals.{text}
 use Rattle.ascii.specs.Texts.{same_bytes, same_lowered, part_of, part_in}
 use Rattle.ascii.specs.declared.TextRange.{TextRange}
-use Rattle.ascii.proofs.Bytes.{or-false}
 use Rattle.ascii.proofs.Clash.{clash}
 use Rattle.origins.specs.Origins.{Origin}
 use Rattle.origins.specs.Expressions.{SourceExpression, expression_of}
 use Rattle.allowlists.specs.Allowlists.{Meaning, source_meaning, allowlist_of, list_admits, meaning_admits}
-use Rattle.allowlists.specs.Allowlists.Meaning.{star, self, src, source, nothing}
+use Rattle.allowlists.specs.Allowlists.Meaning.{star, self, src, source}
 use Rattle.allowlists.specs.Answers.{meaning_as, meaning_in}
 use Rattle.allowlists.specs.declared.MeaningRange.{MeaningRange}
 use Rattle.allowlists.specs.declared.MeaningRange.TheVariants as range

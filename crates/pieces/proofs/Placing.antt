@@ -8,7 +8,7 @@ use native.Mathlib.Omega.{arith}
 use lib.ListN.{length, drop, length-drop, length-append}
 use lib.Seq.{drop-drop, take_at, drop_at}
 use Rattle.ascii.specs.Bytes.{pick, is_white}
-use Rattle.ascii.specs.Reading.{is_empty, run_of, past}
+use Rattle.ascii.specs.Reading.{is_empty, past}
 use Rattle.ascii.specs.Texts.{part_of, prepended, cut_at}
 use Rattle.ascii.proofs.Texts.{part-in}
 use Rattle.ascii.proofs.Suffixes.{Suffix, suffix_trans, suffix-past}

@@ -15,7 +15,6 @@ use Rattle.pieces.specs.declared.Bare.{Bare}
 use Rattle.pieces.specs.declared.Bare.TheVariants as bare
 use Rattle.pieces.specs.declared.WordFound.{WordFound}
 use Rattle.pieces.specs.declared.WordFound.TheVariants as word
-use Rattle.pieces.specs.declared.PieceFor.{PieceFor}
 use Rattle.pieces.specs.declared.Piece.{Piece}
 use Rattle.pieces.specs.declared.Piece.TheVariants as piece
 use Rattle.pieces.specs.declared.EntryFound.{EntryFound}

@@ -5,12 +5,9 @@ use mathlib.Core.List.{List, [], ◌∷◌}
 use mathlib.Core.Bool.{Bool, true, false, not, ◌&&◌}
 use mathlib.Core.Option.{Option, some, none}
 use native.Mathlib.Omega.{arith}
-use lib.ListN.{length, take, drop, get_or, length-drop, length-map}
+use lib.ListN.{length, take, drop, get_or, length-drop}
 use lib.Seq.{take_all, take-nil, drop-drop}
 use borrow.Author.Tests.{eq-eqb, ne_eqb, not-true, not-false}
-use mir.Val.{Val}
-use denote.Laws.{Is}
-use denote.Struct.Declared.{row}
 use Rattle.ascii.specs.Bytes.{pick}
 use Rattle.ascii.specs.Literals.{text}
 use Rattle.ascii.specs.Reading.{head_of}
@@ -24,7 +21,6 @@ use Rattle.replay_lines.specs.declared.CallName.{CallName}
 use Rattle.replay_lines.specs.declared.CallName.TheVariants as name
 use Rattle.replay_lines.specs.declared.FieldState.{FieldState}
 use Rattle.replay_lines.specs.declared.Fields.{Fields}
-use Rattle.replay_lines.specs.declared.LineState.{LineState}
 use Rattle.replay_lines.proofs.Slots.{take-least, kept-long, kept-part}
 
 -- a field that has no `%`, or has one

@@ -12,7 +12,6 @@ use Rattle.settled.specs.Settled.{entry_bytes, head_bytes, word_at, parts_of, ex
 use Rattle.settled.specs.declared.SettledExpression.{SettledExpression}
 use Rattle.settled.specs.declared.ExpressionFound.{ExpressionFound}
 use Rattle.settled.specs.declared.ExpressionFound.TheVariants as found
-use Rattle.settled.specs.declared.ListRange.{ListRange}
 use Rattle.settled.specs.declared.ListFound.{ListFound}
 use Rattle.settled.specs.declared.ListFound.TheVariants as list
 

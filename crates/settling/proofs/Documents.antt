@@ -5,12 +5,11 @@ use mathlib.Core.List.{List, [], ◌∷◌, ◌++◌, map, append_assoc}
 use mathlib.Core.Bool.{Bool, true, false}
 use mathlib.Core.Option.{Option, some, none}
 use native.Mathlib.Omega.{arith}
-use lib.ListN.{length, get_or, take, drop, replicate, length-append, length-drop, length-replicate, get_or-replicate, get_or-append}
+use lib.ListN.{length, get_or, take, drop, length-append, length-drop, length-replicate, get_or-replicate, get_or-append}
 use lib.Seq.{drop_at, get_or-take, get_or-drop, get_or-append-add, length-take-le}
 use lib.Dec.{ltb, eqb}
 use borrow.Author.Tests.{eqb-true, eqb-false, ltb-true, ltb-false}
 use Rattle.ascii.specs.Texts.{same_bytes}
-use Rattle.ascii.proofs.Clash.{clash}
 use Rattle.ascii.proofs.Texts.{same-bytes, bytes_same}
 use Rattle.features.specs.Features.{name_of, feature_of, feature_count}
 use Rattle.features.proofs.Laws.{other_name, found_name, found_below, unknown}
@@ -20,13 +19,12 @@ use Rattle.dictionaries.specs.Dictionaries.Value.{one, many}
 use Rattle.dictionaries.specs.Lookup.{into, later, last_value_in}
 use Rattle.dictionaries.proofs.Laws.{into-none, into-first, later_same, later-other, last-fold, last-of-none}
 use Rattle.allowlists.specs.Allowlists.{Allowlist, Meaning, has_star, has_self, has_src, sources_of, allowlist_of}
-use Rattle.allowlists.specs.Allowlists.Allowlist.{all, listed}
 use Rattle.allowlists.proofs.Laws.{star-all, no-star}
 use Rattle.declarations.specs.Declarations.{item_meaning, items_list, lone_declares, value_declares, last_declares, declares}
 use Rattle.declarations.proofs.Laws.{declares-last, declares-past, last-value, last_none, last-malformed, value-one, value-many, Lone, lone-cases}
 use Rattle.declarations.proofs.Laws.Lone.{ignored, counted}
 use Rattle.declarations.proofs.Written.{no_src}
-use Rattle.settled.specs.Settled.{entry_bytes, head_bytes, word, Entry, entry_in, marked, entry_declares, expressions_from, declared_in}
+use Rattle.settled.specs.Settled.{entry_bytes, head_bytes, word, Entry, entry_in, marked, entry_declares, declared_in}
 use Rattle.settled.proofs.Laws.{declared-by, declared-past, entry-marked, marked-none, marked_all, marked-list, marked-self}
 use Rattle.settling.specs.Writing.{expressions_bytes, value_sources, mark_of, entry_text, with_entry, SettledDocument, with_value, with_member, empty_document, document_of, settled_bytes}
 use Rattle.settling.proofs.Writes.{list_back}

@@ -1,7 +1,7 @@
 -- The bytes that a header is settled into are at most as many as the head and the header have: a part of the laws of this crate. Assumes nothing.
 use mathlib.Core.Path.{◌≡◌, refl}
 use Prim.Native.Nat.{ℕ, ◌+◌, ◌≤◌}
-use mathlib.Core.List.{List, [], ◌∷◌, ◌++◌}
+use mathlib.Core.List.{List, [], ◌∷◌}
 use mathlib.Core.Option.{Option, some, none}
 use native.Mathlib.Omega.{arith}
 use lib.ListN.{length, length-append}
@@ -9,7 +9,7 @@ use Rattle.features.specs.Features.{feature_of}
 use Rattle.dictionaries.specs.Dictionaries.{Value, Plain, value_items, members}
 use Rattle.dictionaries.specs.Lookup.{into}
 use Rattle.dictionaries.proofs.Bytes.{items_bytes}
-use Rattle.dictionaries.proofs.MemberBytes.{plain_bytes, plain-none, plain-first, members-bytes}
+use Rattle.dictionaries.proofs.MemberBytes.{plain_bytes, plain-first, members-bytes}
 use Rattle.dictionaries.proofs.Laws.{into-none, into-first}
 use Rattle.settled.specs.Settled.{head_bytes}
 use Rattle.settling.specs.Writing.{expressions_bytes, value_sources, SettledDocument, with_value, with_member, empty_document, document_of, settled_bytes}

@@ -11,7 +11,7 @@ use Rattle.ascii.specs.Bytes.{pick}
 use Rattle.ascii.specs.Texts.{part_of}
 use Rattle.ascii.proofs.Bytes.{or-false, or-true}
 use Rattle.ascii.proofs.Clash.{clash}
-use Rattle.origins.specs.Expressions.{HostPart, SourceExpression, expression_of}
+use Rattle.origins.specs.Expressions.{HostPart, SourceExpression}
 use Rattle.origins.specs.Expressions.HostPart.{no_host, any_host, exact_host, subdomains_of}
 use Rattle.origins.specs.NormalForms.{GoodExpression, GoodHost, GoodPort}
 use Rattle.origins.specs.Answers.{expression_in}
@@ -23,7 +23,6 @@ use Rattle.items.specs.Items.{Item}
 use Rattle.items.specs.Found.{item_in}
 use Rattle.items.specs.declared.ItemFound.{ItemFound}
 use Rattle.items.specs.declared.ItemRange.{ItemRange}
-use Rattle.dictionaries.specs.Dictionaries.{Value}
 use Rattle.dictionaries.specs.Lookup.{cursor_at, items_from, value_in}
 use Rattle.dictionaries.specs.declared.ListItem.{ListItem}
 use Rattle.dictionaries.specs.declared.ListItem.TheVariants as list
@@ -32,14 +31,14 @@ use Rattle.dictionaries.specs.declared.MemberValue.TheVariants as member
 use Rattle.dictionaries.specs.declared.MemberItem.{MemberItem}
 use Rattle.dictionaries.specs.declared.MemberList.{MemberList}
 use Rattle.dictionaries.proofs.Laws.{items-item, items-end, value-item, value-list}
-use Rattle.allowlists.specs.Allowlists.{Allowlist, Meaning, is_star, is_self, is_src, with_source, has_star, has_self, sources_of, allowlist_of}
+use Rattle.allowlists.specs.Allowlists.{Allowlist, Meaning, is_star, is_self, with_source, has_star, has_self, sources_of, allowlist_of}
 use Rattle.allowlists.specs.Allowlists.Meaning.{star, self, src, source, nothing}
 use Rattle.allowlists.specs.Answers.{meaning_as, meaning_in}
 use Rattle.allowlists.specs.declared.MeaningRange.{MeaningRange}
 use Rattle.allowlists.specs.declared.MeaningRange.TheVariants as range
 use Rattle.allowlists.proofs.Laws.{star-all, no-star, has-nil, has-cons, sources-nil, sources-cons, with-star, with-self, with_nothing, with-source, with_append}
 use Rattle.allowlists.proofs.Meanings.{told-star, told-self, told-src, told-nothing}
-use Rattle.declarations.specs.Declarations.{item_meaning, lone_declares, value_declares}
+use Rattle.declarations.specs.Declarations.{item_meaning, lone_declares}
 use Rattle.declarations.proofs.Meanings.{item-in, source-item, item-no-src}
 use Rattle.declarations.proofs.Laws.{value-one, value-many, lone-nothing, Lone, lone-cases}
 use Rattle.declarations.proofs.Laws.Lone.{ignored, counted}

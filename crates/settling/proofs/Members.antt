@@ -2,13 +2,12 @@
 use mathlib.Core.Path.{◌≡◌, refl, ap, ◌∙◌, sym}
 use Prim.Native.Nat.{ℕ, zero, suc, ◌+◌, ◌*◌, ◌-◌, ◌≤◌, ◌<◌}
 use mathlib.Core.List.{List, [], ◌∷◌, ◌++◌, append_assoc, append-nil}
-use mathlib.Core.Bool.{Bool, true, false, not}
+use mathlib.Core.Bool.{Bool, true, false}
 use mathlib.Core.Option.{Option, some, none}
 use native.Mathlib.Omega.{arith}
 use native.Mathlib.Numerals.{add-one}
-use lib.ListN.{length, take, drop, set, replicate, length-append, length-drop, drop_of_length-le, length-replicate, length-set}
+use lib.ListN.{length, take, drop, set, replicate, length-append, length-drop, drop_of_length-le, length-replicate}
 use lib.Seq.{take_all, take_at, drop_at, drop-drop, drop-cons, set_at, take-append-le, drop-append-le, length-take-le}
-use lib.Dec.{ltb}
 use borrow.Author.Tests.{lt-ltb, le-ltb}
 use Rattle.ascii.specs.Bytes.{pick}
 use Rattle.ascii.specs.Texts.{part_in}
@@ -18,27 +17,26 @@ use Rattle.features.specs.Features.{feature_of, feature_count}
 use Rattle.features.specs.Answers.{lookup_in, number_in, IsLookup}
 use Rattle.features.specs.declared.Lookup.{Lookup}
 use Rattle.features.specs.declared.Lookup.TheVariants.{Known, Unknown}
-use Rattle.dictionaries.specs.Dictionaries.{Value, Plain, value_items, members}
+use Rattle.dictionaries.specs.Dictionaries.{Value, Plain, members}
 use Rattle.dictionaries.specs.Lookup.{into, value_in, is_some}
-use Rattle.dictionaries.specs.Members.{members_from, member_in, next_at, IsNext, fold_members}
+use Rattle.dictionaries.specs.Members.{members_from, member_in, IsNext, fold_members}
 use Rattle.dictionaries.specs.declared.MemberAt.{MemberAt}
 use Rattle.dictionaries.specs.declared.NextMember.{NextMember}
 use Rattle.dictionaries.specs.declared.NextMember.TheVariants as next
 use Rattle.dictionaries.proofs.Laws.{fold-member, fold-members-end, fold-members-malformed, fold-members, fold-malformed, next-member-high, some-is, none_is}
-use Rattle.dictionaries.proofs.Bytes.{items_bytes, next-bytes}
+use Rattle.dictionaries.proofs.Bytes.{next-bytes}
 use Rattle.declarations.specs.Declarations.{value_declares, is_malformed}
 use Rattle.declarations.proofs.Laws.{malformed-is}
 use Rattle.settled.specs.Settled.{entry_bytes, head_bytes}
 use Rattle.settling.specs.Writing.{expressions_bytes, value_sources, mark_of, entry_text, with_entry, SettledDocument, with_value, with_member, empty_document, document_of, settled_bytes}
-use Rattle.settling.specs.Promises.{IsSettledIn, IsSettled, answer_of, settled_answer}
+use Rattle.settling.specs.Promises.{IsSettledIn, IsSettled}
 use Rattle.settling.specs.Steps.{Wrote, ValuePut, Holds, HasRoom, Settles, Cleared, MembersSettled}
 use Rattle.settling.specs.declared.Kept.{Kept}
 use Rattle.settling.specs.declared.SettledHeader.{SettledHeader}
-use Rattle.settling.specs.declared.Settled.{Settled}
 use Rattle.settling.specs.declared.Settled.TheVariants as settled
 use Rattle.settling.proofs.Writes.{wrote-is, bytes-many}
 use Rattle.settling.proofs.Sizes.{value-fits}
-use Rattle.settling.proofs.Documents.{entry-long, document-long, settled_says}
+use Rattle.settling.proofs.Documents.{entry-long, settled_says}
 
 -- an entry put into a run that begins with a head
 entered : (head b t m : List ℕ) (n q : ℕ) → length head ≡ head_bytes → n < feature_count → length t ≡ entry_bytes → Wrote (head ++ b) (entry_bytes * n) t m q → m ≡ with_entry head n t ++ b

@@ -1,7 +1,7 @@
 -- A member's list in the settled form is never longer than the member's text. Assumes nothing.
-use mathlib.Core.Path.{◌≡◌, refl, ap, ◌∙◌, sym}
+use mathlib.Core.Path.{◌≡◌, refl, ap, ◌∙◌}
 use Prim.Native.Nat.{ℕ, ◌+◌, ◌-◌, ◌≤◌, ◌<◌}
-use mathlib.Core.List.{List, [], ◌∷◌, ◌++◌, map}
+use mathlib.Core.List.{List, [], ◌∷◌, map}
 use mathlib.Core.Bool.{Bool, true, false, ◌&&◌}
 use mathlib.Core.Option.{some}
 use native.Mathlib.Omega.{arith}
@@ -22,7 +22,7 @@ use Rattle.origins.proofs.Steps.{each-length}
 use Rattle.items.specs.Items.{Item}
 use Rattle.items.proofs.Bytes.{item_bytes, string_bytes}
 use Rattle.dictionaries.specs.Dictionaries.{Value, value_items}
-use Rattle.dictionaries.proofs.Bytes.{items_bytes, bytes-none, bytes-first}
+use Rattle.dictionaries.proofs.Bytes.{items_bytes, bytes-first}
 use Rattle.allowlists.specs.Allowlists.{Meaning, with_source, sources_of}
 use Rattle.allowlists.specs.Allowlists.Meaning.{star, self, src, source, nothing}
 use Rattle.allowlists.proofs.Laws.{sources-nil, sources-cons, with-star, with-self, with-src, with-source, with_nothing, with_append}

@@ -1,13 +1,11 @@
 -- What the steps of settling a header promise of one another.
-use Rattle.std.specs.Prelude.{ℕ, ◌+◌, ◌≤◌, ◌≡◌, List, [], ◌∷◌, ◌++◌, map, Bool, true, false, not, ◌&&◌, ◌||◌, length, take, drop, replicate, eqb}
+use Rattle.std.specs.Prelude.{ℕ, ◌+◌, ◌≤◌, ◌≡◌, List, [], ◌++◌, Bool, true, false, not, ◌&&◌, ◌||◌, length, take, drop, replicate, eqb}
 use Rattle.std.proofs.Math.Option.{Option}
 use Rattle.ascii.specs.Bytes.{pick}
-use Rattle.limits.specs.Limits.{text_bytes}
 use Rattle.origins.specs.Expressions.{SourceExpression}
-use Rattle.items.specs.Items.{Item}
 use Rattle.dictionaries.specs.Dictionaries.{Value, members}
 use Rattle.allowlists.specs.Allowlists.{Meaning, is_star, is_self, with_source, has_star, has_self, sources_of}
-use Rattle.declarations.specs.Declarations.{item_meaning, value_declares}
+use Rattle.declarations.specs.Declarations.{value_declares}
 use Rattle.settled.specs.Settled.{head_bytes}
 use Rattle.settling.specs.Writing.{host_text, port_value, expressions_bytes, value_sources, mark_of, SettledDocument, with_value, document_of}
 use Rattle.settling.specs.declared.Listed.{Listed}

@@ -24,7 +24,6 @@ use Rattle.origins.specs.NormalForms.{GoodExpression, normal, same_expression}
 use Rattle.origins.proofs.Laws.{normal-good, normal-normal, normal-admits, same-expression-is, expression-plain}
 use Rattle.items.specs.Items.Item.{token}
 use Rattle.dictionaries.specs.Dictionaries.{Value, Plain, members}
-use Rattle.dictionaries.specs.Dictionaries.Value.{one}
 use Rattle.dictionaries.specs.Lookup.{into, later, last_value_in}
 use Rattle.dictionaries.specs.Written.{All, GoodToken, GoodItem, GoodValue, GoodMember, AllGood, written}
 use Rattle.dictionaries.specs.Written.All.{empty, and}

@@ -1,5 +1,5 @@
 -- 01, "Tidied headers" and the refusals of tidying: 4 for the input, 8, 4 for the output, 9, in this order.
-use Rattle.std.specs.Prelude.{ℕ, ◌≡◌, List, ◌++◌, Bool, true, false, length, drop, ltb}
+use Rattle.std.specs.Prelude.{ℕ, ◌≡◌, List, ◌++◌, length, drop, ltb}
 use Rattle.limits.specs.Limits.{text_bytes}
 use Rattle.limits.specs.Refusals.{refusal_number}
 use Rattle.ascii.specs.Bytes.{pick}
