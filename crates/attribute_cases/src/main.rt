@@ -13,22 +13,26 @@ use decisions::{Decision, Framed};
 use features::Lookup;
 use origins::{OriginRange, OriginText};
 use settling::Settled;
+use std::io;
 
-fn put(t: &[u8]) {
-    io::write_all(1, t);
+// So much of the input is read.
+const LIST_BYTES: usize = 65_536;
+
+fn put(rt: &impl Print, t: &[u8]) -> io::Result<()> {
+    rt.write_all(t)
 }
 
-fn put_decision(d: Decision) {
+fn put_decision(rt: &impl Print, d: Decision) -> io::Result<()> {
     match d {
-        Decision::Enabled => put(b": Enabled\n"),
-        Decision::Disabled => put(b": Disabled\n"),
+        Decision::Enabled => put(rt, b": Enabled\n"),
+        Decision::Disabled => put(rt, b": Disabled\n"),
     }
 }
 
-fn put_number(n: u32) {
-    put(b": ");
-    io::print_decimal(1, n as u64);
-    put(b"\n");
+fn put_number(rt: &impl Print, n: u32) -> io::Result<()> {
+    put(rt, b": ")?;
+    rt.print(n)?;
+    put(rt, b"\n")
 }
 
 // The field of a number.
@@ -138,7 +142,7 @@ fn is_container(t: &[u8], o: OriginRange) -> bool {
 }
 
 // The document that arrives, asked at its own origin; it has no header.
-fn arrived(line: &[u8], t: &[u8]) {
+fn arrived(rt: &impl Print, line: &[u8], t: &[u8]) -> io::Result<()> {
     let src = field(line, 4);
     let n = feature(field(line, 6));
     let marks = field(line, 0);
@@ -158,17 +162,17 @@ fn arrived(line: &[u8], t: &[u8]) {
     };
     let inherited = inherits(field(line, 1), marks, field(line, 2), sandbox, n, t, a);
     let default = features::default_of(n);
-    put_decision(decisions::question(inherited, Admission::NoList, default, true));
+    let decision = decisions::question(inherited, Admission::NoList, default, true);
+    put_decision(rt, decision)
 }
 
 // An empty text is the container's origin.
-fn arriving(line: &[u8]) {
+fn arriving(rt: &impl Print, line: &[u8]) -> io::Result<()> {
     let t = field(line, 5);
     if t.len() == 0 {
-        arrived(line, b"https://a.example");
-        return;
+        return arrived(rt, line, b"https://a.example");
     }
-    arrived(line, t);
+    arrived(rt, line, t)
 }
 
 // The container, asked at its own origin.
@@ -220,7 +224,7 @@ fn inherited_mask(
 }
 
 // A frame's forecast.
-fn forecast(line: &[u8]) {
+fn forecast(rt: &impl Print, line: &[u8]) -> io::Result<()> {
     let header = field(line, 1);
     let allow = field(line, 2);
     let src = field(line, 4);
@@ -233,7 +237,7 @@ fn forecast(line: &[u8]) {
                 container_same: false,
                 declared_same: false,
             };
-            put_number(inherited_mask(header, marks, allow, sandbox, b"", a));
+            put_number(rt, inherited_mask(header, marks, allow, sandbox, b"", a))
         }
         DeclaredOrigin::Container => {
             let o = origin(b"https://a.example");
@@ -242,7 +246,8 @@ fn forecast(line: &[u8]) {
                 container_same: true,
                 declared_same: true,
             };
-            put_number(inherited_mask(header, marks, allow, sandbox, b"https://a.example", a));
+            let mask = inherited_mask(header, marks, allow, sandbox, b"https://a.example", a);
+            put_number(rt, mask)
         }
         DeclaredOrigin::Src(r) => {
             let o = OriginRange::Tuple(r);
@@ -252,9 +257,9 @@ fn forecast(line: &[u8]) {
                 container_same,
                 declared_same: true,
             };
-            put_number(inherited_mask(header, marks, allow, sandbox, src, a));
+            put_number(rt, inherited_mask(header, marks, allow, sandbox, src, a))
         }
-        DeclaredOrigin::NotAnOrigin => put(b": no origin\n"),
+        DeclaredOrigin::NotAnOrigin => put(rt, b": no origin\n"),
     }
 }
 
@@ -269,41 +274,38 @@ fn enabled_mask(header: &[u8]) -> u32 {
     decisions::mask(all)
 }
 
-fn case(line: &[u8]) {
+fn case(rt: &impl Print, line: &[u8]) -> io::Result<()> {
     let kind = field(line, 0);
-    put(line);
+    put(rt, line)?;
     if pieces::has_keyword(kind, b"container") {
-        put_decision(asked(field(line, 1), feature(field(line, 2))));
-        return;
+        return put_decision(rt, asked(field(line, 1), feature(field(line, 2))));
     }
     if pieces::has_keyword(kind, b"grandchild") {
         let n = feature(field(line, 3));
-        put_decision(grandchild(field(line, 1), field(line, 2), n));
-        return;
+        return put_decision(rt, grandchild(field(line, 1), field(line, 2), n));
     }
     if pieces::has_keyword(kind, b"enabled") {
-        put_number(enabled_mask(field(line, 1)));
-        return;
+        return put_number(rt, enabled_mask(field(line, 1)));
     }
     if pieces::has_keyword(kind, b"forecast") {
-        forecast(line);
-        return;
+        return forecast(rt, line);
     }
-    arriving(line);
+    arriving(rt, line)
 }
 
 // Each line of a list is a case, and ends in a line feed.
-fn cases(list: &[u8]) {
+fn cases(rt: &impl Print, list: &[u8]) -> io::Result<()> {
     let mut i: usize = 0;
     while i < list.len() {
         let to = ascii::run_end(list, i, Class::Not(b'\n'));
-        case(ascii::part(list, i, to));
+        case(rt, ascii::part(list, i, to))?;
         i = to + 1;
     }
+    Ok(())
 }
 
-fn main() {
-    let mut list = io::large_buffer();
-    let n = io::read_full(0, &mut list);
-    cases(&list[..n]);
+fn main(rt: HostRuntime) -> io::Result<()> {
+    let mut list = [0u8; LIST_BYTES];
+    let n = reading::read_full(&mut rt.stdin(), &mut list)?;
+    cases(&rt, &list[..n])
 }

@@ -8,166 +8,171 @@ use items::{ItemKind, ItemRange};
 use origins::{OriginRange, OriginText};
 use settled::ListFound;
 use settling::Settled;
+use std::io;
 
-fn put(s: &[u8]) {
-    io::write_all(1, s);
+// So much of the input is read.
+const LIST_BYTES: usize = 4096;
+
+fn put(rt: &impl Print, s: &[u8]) -> io::Result<()> {
+    rt.write_all(s)
 }
 
 // Whether a text is a dictionary.
-fn tell(s: &[u8]) {
+fn tell(rt: &impl Print, s: &[u8]) -> io::Result<()> {
     if dictionaries::is_dictionary(s) {
-        put(b"yes ");
+        put(rt, b"yes ")?;
     } else {
-        put(b"no ");
+        put(rt, b"no ")?;
     }
-    put(s);
-    put(b"\n");
+    put(rt, s)?;
+    put(rt, b"\n")
 }
 
-fn show_item(s: &[u8], item: ItemRange) {
+fn show_item(rt: &impl Print, s: &[u8], item: ItemRange) -> io::Result<()> {
     let kind = item.kind;
     let from = item.from;
     let to = item.to;
     match kind {
-        ItemKind::Token => put(b"token "),
-        ItemKind::String => put(b"string "),
-        ItemKind::Other => put(b"other"),
+        ItemKind::Token => put(rt, b"token ")?,
+        ItemKind::String => put(rt, b"string ")?,
+        ItemKind::Other => put(rt, b"other")?,
     }
-    put(ascii::part(s, from, to));
+    put(rt, ascii::part(s, from, to))
 }
 
-fn show_list(s: &[u8], first: usize) {
-    put(b"list");
+fn show_list(rt: &impl Print, s: &[u8], first: usize) -> io::Result<()> {
+    put(rt, b"list")?;
     let mut at = first;
     loop {
         match dictionaries::item_at(s, at) {
             ListItem::Item(f) => {
                 let range = f.range;
-                put(b"; ");
-                show_item(s, range);
+                put(rt, b"; ")?;
+                show_item(rt, s, range)?;
                 at = f.next;
             }
-            ListItem::End => return,
+            ListItem::End => return Ok(()),
         }
     }
 }
 
-fn show_params(s: &[u8], range: TextRange) {
+fn show_params(rt: &impl Print, s: &[u8], range: TextRange) -> io::Result<()> {
     let from = range.from;
     let to = range.to;
     if from < to {
-        put(b"; parameters ");
-        put(ascii::part(s, from, to));
+        put(rt, b"; parameters ")?;
+        put(rt, ascii::part(s, from, to))?;
     }
+    Ok(())
 }
 
 // The last member of a key.
-fn show(s: &[u8], key: &[u8]) {
-    put(key);
-    put(b" in ");
-    put(s);
-    put(b": ");
+fn show(rt: &impl Print, s: &[u8], key: &[u8]) -> io::Result<()> {
+    put(rt, key)?;
+    put(rt, b" in ")?;
+    put(rt, s)?;
+    put(rt, b": ")?;
     match dictionaries::member(s, key) {
-        MemberFound::NotADictionary => put(b"malformed"),
-        MemberFound::Absent => put(b"absent"),
+        MemberFound::NotADictionary => put(rt, b"malformed")?,
+        MemberFound::Absent => put(rt, b"absent")?,
         MemberFound::Item(m) => {
             let item = m.item;
             let params = m.params;
-            show_item(s, item);
-            show_params(s, params);
+            show_item(rt, s, item)?;
+            show_params(rt, s, params)?;
         }
         MemberFound::List(m) => {
             let first = m.first;
             let params = m.params;
-            show_list(s, first);
-            show_params(s, params);
+            show_list(rt, s, first)?;
+            show_params(rt, s, params)?;
         }
     }
-    put(b"\n");
+    put(rt, b"\n")
 }
 
 // Whether the list that settled bytes say for camera, feature 0, admits an origin, for a document at https://a.example.
-fn ask(d: &[u8], text: &[u8], o: OriginRange) {
+fn ask(rt: &impl Print, d: &[u8], text: &[u8], o: OriginRange) -> io::Result<()> {
     let same = ascii::same(text, b"https://a.example");
     match settled::admits(d, 0, same, text, o) {
-        Admission::Admitted => put(b"yes"),
-        Admission::NotAdmitted => put(b"no"),
-        Admission::NoList => put(b"undeclared"),
+        Admission::Admitted => put(rt, b"yes"),
+        Admission::NotAdmitted => put(rt, b"no"),
+        Admission::NoList => put(rt, b"undeclared"),
     }
 }
 
-fn ask_text(d: &[u8], text: &[u8]) {
+fn ask_text(rt: &impl Print, d: &[u8], text: &[u8]) -> io::Result<()> {
     match origins::origin_text(text) {
-        OriginText::Tuple(o) => ask(d, text, OriginRange::Tuple(o)),
-        OriginText::Null => ask(d, text, OriginRange::Fresh),
-        OriginText::Empty => put(b"empty"),
-        OriginText::NotAnOrigin => put(b"no origin"),
+        OriginText::Tuple(o) => ask(rt, d, text, OriginRange::Tuple(o)),
+        OriginText::Null => ask(rt, d, text, OriginRange::Fresh),
+        OriginText::Empty => put(rt, b"empty"),
+        OriginText::NotAnOrigin => put(rt, b"no origin"),
     }
 }
 
-fn ask_all(d: &[u8]) {
-    put(b": own ");
-    ask_text(d, b"https://a.example");
-    put(b", other ");
-    ask_text(d, b"https://b.example");
-    put(b", opaque ");
-    ask_text(d, b"null");
-    put(b"\n");
+fn ask_all(rt: &impl Print, d: &[u8]) -> io::Result<()> {
+    put(rt, b": own ")?;
+    ask_text(rt, d, b"https://a.example")?;
+    put(rt, b", other ")?;
+    ask_text(rt, d, b"https://b.example")?;
+    put(rt, b", opaque ")?;
+    ask_text(rt, d, b"null")?;
+    put(rt, b"\n")
 }
 
-fn show_camera(d: &[u8], malformed: bool) {
+fn show_camera(rt: &impl Print, d: &[u8], malformed: bool) -> io::Result<()> {
     if malformed {
-        put(b": malformed\n");
-        return;
+        return put(rt, b": malformed\n");
     }
     match settled::list_of(d, 0) {
-        ListFound::Undeclared => put(b": undeclared\n"),
-        ListFound::All => ask_all(d),
-        ListFound::Listed(_) => ask_all(d),
+        ListFound::Undeclared => put(rt, b": undeclared\n"),
+        ListFound::All => ask_all(rt, d),
+        ListFound::Listed(_) => ask_all(rt, d),
     }
 }
 
 // What a header declares for camera, once it is settled.
-fn camera(s: &[u8]) {
-    put(b"camera of ");
-    put(s);
+fn camera(rt: &impl Print, s: &[u8]) -> io::Result<()> {
+    put(rt, b"camera of ")?;
+    put(rt, s)?;
     let mut d = [0u8; 200];
     match settling::settle(s, &mut d) {
-        Settled::Header(f) => show_camera(&d, f.malformed),
-        Settled::TooLong => put(b": too long\n"),
-        Settled::NoRoom => put(b": no room\n"),
+        Settled::Header(f) => show_camera(rt, &d, f.malformed),
+        Settled::TooLong => put(rt, b": too long\n"),
+        Settled::NoRoom => put(rt, b": no room\n"),
     }
 }
 
 // A kind is told by its first letter: `is` a text a dictionary, the last member `of` a key in a text, what a header declares for `camera`.
-fn case(line: &[u8]) {
+fn case(rt: &impl Print, line: &[u8]) -> io::Result<()> {
     let e = ascii::run_end(line, 0, Class::Not(b'|'));
     let rest = ascii::part(line, ascii::place(line, e + 1), line.len());
     match ascii::byte(line, 0) {
-        b'i' => tell(rest),
+        b'i' => tell(rt, rest),
         b'o' => {
             let k = ascii::run_end(rest, 0, Class::Not(b'|'));
             let text = ascii::part(rest, ascii::place(rest, k + 1), rest.len());
-            show(text, ascii::part(rest, 0, k));
+            show(rt, text, ascii::part(rest, 0, k))
         }
-        b'c' => camera(rest),
-        _ => put(b"no case\n"),
+        b'c' => camera(rt, rest),
+        _ => put(rt, b"no case\n"),
     }
 }
 
 // Each line of a list is a case, and ends in a line feed.
-fn cases(list: &[u8]) {
+fn cases(rt: &impl Print, list: &[u8]) -> io::Result<()> {
     let mut i: usize = 0;
     while i < list.len() {
         let to = ascii::run_end(list, i, Class::Not(b'\n'));
-        case(ascii::part(list, i, to));
+        case(rt, ascii::part(list, i, to))?;
         i = to + 1;
     }
+    Ok(())
 }
 
-fn main() {
-    let mut list = io::buffer();
-    let n = io::read_full(0, &mut list);
-    cases(&list[..n]);
-    tell(b"a=1\n"); // no line says it
+fn main(rt: HostRuntime) -> io::Result<()> {
+    let mut list = [0u8; LIST_BYTES];
+    let n = reading::read_full(&mut rt.stdin(), &mut list)?;
+    cases(&rt, &list[..n])?;
+    tell(&rt, b"a=1\n") // no line says it
 }

@@ -1,7 +1,7 @@
 // Reads a session in the replay format on standard input, and writes its answers on standard output.
 #![tactic(auto)]
 
-fn main() {
+fn main(rt: HostRuntime) {
     let mut table = [0u8; document_table::TABLE_BYTES];
-    replaying::run(&mut table);
+    replaying::run(&rt, &mut rt.stdin(), &mut table);
 }

@@ -9,103 +9,107 @@ use features::{DefaultOf, Left, Lookup};
 use origins::{
     ExpressionRange, HostKind, OriginRange, OriginText, PortPart, Scheme, Source, TupleRange,
 };
+use std::io;
 
 // Texts up to this length are written whole.
 const SHOWN: usize = 60;
 
-fn put(t: &[u8]) {
-    io::write_all(1, t);
+// So much of the input is read.
+const LIST_BYTES: usize = 65_536;
+
+fn put(rt: &impl Print, t: &[u8]) -> io::Result<()> {
+    rt.write_all(t)
 }
 
 // A text in quotes, with a word before it.
-fn put_text(word: &[u8], t: &[u8]) {
-    put(word);
-    put(b" \"");
+fn put_text(rt: &impl Print, word: &[u8], t: &[u8]) -> io::Result<()> {
+    put(rt, word)?;
+    put(rt, b" \"")?;
     if SHOWN < t.len() {
-        put(ascii::part(t, 0, 12));
-        put(b"..\" of ");
-        io::print_decimal(1, t.len() as u64);
-        put(b" bytes");
+        put(rt, ascii::part(t, 0, 12))?;
+        put(rt, b"..\" of ")?;
+        rt.print(t.len())?;
+        put(rt, b" bytes")
     } else {
-        put(t);
-        put(b"\"");
+        put(rt, t)?;
+        put(rt, b"\"")
     }
 }
 
-fn put_answer(yes: bool) {
+fn put_answer(rt: &impl Print, yes: bool) -> io::Result<()> {
     if yes {
-        put(b": yes\n");
+        put(rt, b": yes\n")
     } else {
-        put(b": no\n");
+        put(rt, b": no\n")
     }
 }
 
-fn put_scheme(k: Scheme) {
+fn put_scheme(rt: &impl Print, k: Scheme) -> io::Result<()> {
     match k {
-        Scheme::Http => put(b": http"),
-        Scheme::Https => put(b": https"),
+        Scheme::Http => put(rt, b": http"),
+        Scheme::Https => put(rt, b": https"),
     }
 }
 
-fn put_port(p: PortPart) {
+fn put_port(rt: &impl Print, p: PortPart) -> io::Result<()> {
     match p {
-        PortPart::Default => put(b", default port\n"),
-        PortPart::Any => put(b", any port\n"),
+        PortPart::Default => put(rt, b", default port\n"),
+        PortPart::Any => put(rt, b", any port\n"),
         PortPart::Number(n) => {
-            put(b", port ");
-            io::print_decimal(1, n as u64);
-            put(b"\n");
+            put(rt, b", port ")?;
+            rt.print(n)?;
+            put(rt, b"\n")
         }
     }
 }
 
-fn put_tuple(s: &[u8], r: TupleRange) {
+fn put_tuple(rt: &impl Print, s: &[u8], r: TupleRange) -> io::Result<()> {
     let k = r.scheme;
-    put_scheme(k);
-    put_text(b", host", ascii::part(s, r.from, r.to));
-    put_port(PortPart::Number(r.port));
+    put_scheme(rt, k)?;
+    put_text(rt, b", host", ascii::part(s, r.from, r.to))?;
+    put_port(rt, PortPart::Number(r.port))
 }
 
 // What an origin text says.
-fn origin(s: &[u8]) {
-    put_text(b"origin", s);
+fn origin(rt: &impl Print, s: &[u8]) -> io::Result<()> {
+    put_text(rt, b"origin", s)?;
     match origins::origin_text(s) {
-        OriginText::Empty => put(b": empty\n"),
-        OriginText::Null => put(b": null\n"),
-        OriginText::Tuple(r) => put_tuple(s, r),
-        OriginText::NotAnOrigin => put(b": no origin\n"),
+        OriginText::Empty => put(rt, b": empty\n"),
+        OriginText::Null => put(rt, b": null\n"),
+        OriginText::Tuple(r) => put_tuple(rt, s, r),
+        OriginText::NotAnOrigin => put(rt, b": no origin\n"),
     }
 }
 
-fn put_expression(s: &[u8], e: ExpressionRange) {
+fn put_expression(rt: &impl Print, s: &[u8], e: ExpressionRange) -> io::Result<()> {
     let k = e.scheme;
     let kind = e.host;
     let p = e.port;
     let h = ascii::part(s, e.from, e.to);
-    put_scheme(k);
+    put_scheme(rt, k)?;
     match kind {
-        HostKind::None => put(b" alone\n"),
+        HostKind::None => put(rt, b" alone\n"),
         HostKind::Any => {
-            put(b", any host");
-            put_port(p);
+            put(rt, b", any host")?;
+            put_port(rt, p)
         }
         HostKind::Exact => {
-            put_text(b", host", h);
-            put_port(p);
+            put_text(rt, b", host", h)?;
+            put_port(rt, p)
         }
         HostKind::Subdomains => {
-            put_text(b", subdomains of", h);
-            put_port(p);
+            put_text(rt, b", subdomains of", h)?;
+            put_port(rt, p)
         }
     }
 }
 
 // What an expression is read as.
-fn expression(s: &[u8]) {
-    put_text(b"expression", s);
+fn expression(rt: &impl Print, s: &[u8]) -> io::Result<()> {
+    put_text(rt, b"expression", s)?;
     match origins::expression(s) {
-        Source::Expression(e) => put_expression(s, e),
-        Source::NotAnExpression => put(b": none\n"),
+        Source::Expression(e) => put_expression(rt, s, e),
+        Source::NotAnExpression => put(rt, b": none\n"),
     }
 }
 
@@ -125,69 +129,69 @@ fn asked(t: &[u8]) -> Said {
     }
 }
 
-fn put_admits(s: &[u8], t: &[u8], o: OriginRange) {
+fn put_admits(rt: &impl Print, s: &[u8], t: &[u8], o: OriginRange) -> io::Result<()> {
     match origins::expression(s) {
-        Source::Expression(e) => put_answer(origins::admits(s, e, t, o)),
-        Source::NotAnExpression => put(b": no expression\n"),
+        Source::Expression(e) => put_answer(rt, origins::admits(s, e, t, o)),
+        Source::NotAnExpression => put(rt, b": no expression\n"),
     }
 }
 
 // Whether an expression admits the origin of a text.
-fn admits(s: &[u8], t: &[u8]) {
-    put_text(b"admits", s);
-    put_text(b"", t);
+fn admits(rt: &impl Print, s: &[u8], t: &[u8]) -> io::Result<()> {
+    put_text(rt, b"admits", s)?;
+    put_text(rt, b"", t)?;
     match asked(t) {
-        Said::Origin(o) => put_admits(s, t, o),
-        Said::None => put(b": no origin\n"),
+        Said::Origin(o) => put_admits(rt, s, t, o),
+        Said::None => put(rt, b": no origin\n"),
     }
 }
 
 // Whether the origins of two texts are the same.
-fn same(s: &[u8], t: &[u8]) {
-    put_text(b"same", s);
-    put_text(b"", t);
+fn same(rt: &impl Print, s: &[u8], t: &[u8]) -> io::Result<()> {
+    put_text(rt, b"same", s)?;
+    put_text(rt, b"", t)?;
     match asked(s) {
         Said::Origin(a) => match asked(t) {
-            Said::Origin(b) => put_answer(origins::same_origin(s, a, t, b)),
-            Said::None => put(b": no origin\n"),
+            Said::Origin(b) => put_answer(rt, origins::same_origin(s, a, t, b)),
+            Said::None => put(rt, b": no origin\n"),
         },
-        Said::None => put(b": no origin\n"),
+        Said::None => put(rt, b": no origin\n"),
     }
 }
 
 // The name and the default list of a number.
-fn number(n: u32) {
-    put(b": number ");
-    io::print_decimal(1, n as u64);
+fn number(rt: &impl Print, n: u32) -> io::Result<()> {
+    put(rt, b": number ")?;
+    rt.print(n)?;
     let name = features::name_of(n);
     let bytes = name.bytes;
-    put_text(b", name", ascii::part(&bytes, 0, name.len));
+    put_text(rt, b", name", ascii::part(&bytes, 0, name.len))?;
     match features::default_of(n) {
-        DefaultOf::All => put(b", default *\n"),
-        DefaultOf::SelfOnly => put(b", default self\n"),
-        DefaultOf::NoSuchFeature => put(b", no such feature\n"),
+        DefaultOf::All => put(rt, b", default *\n"),
+        DefaultOf::SelfOnly => put(rt, b", default self\n"),
+        DefaultOf::NoSuchFeature => put(rt, b", no such feature\n"),
     }
 }
 
 // The feature of a name.
-fn feature(word: &[u8]) {
-    put_text(b"feature", word);
+fn feature(rt: &impl Print, word: &[u8]) -> io::Result<()> {
+    put_text(rt, b"feature", word)?;
     match features::feature_of(word) {
-        Lookup::Known(n) => number(n),
-        Lookup::Unknown => put(b": unknown\n"),
+        Lookup::Known(n) => number(rt, n),
+        Lookup::Unknown => put(rt, b": unknown\n"),
     }
 }
 
 // The name that is left to compare with a word.
-fn left(word: &[u8]) {
-    put_text(b"left", word);
+fn left(rt: &impl Print, word: &[u8]) -> io::Result<()> {
+    put_text(rt, b"left", word)?;
     match features::left_to_compare(word) {
         Left::One(n) => {
-            put(b": ");
-            io::print_decimal(1, n as u64);
-            put(b"\n");
+            put(rt, b": ")?;
+            rt.print(n)?;
+            put(rt, b"\n")
         }
-        Left::Nothing => put(b": nothing\n"),
+        Left::Nothing => put(rt, b": nothing\n"),
     }
 }
 
@@ -212,49 +216,52 @@ fn next_text(line: &[u8], at: usize) -> Quoted {
 }
 
 // A kind is told by its first letter.
-fn case(line: &[u8]) {
+fn case(rt: &impl Print, line: &[u8]) -> io::Result<()> {
     let one = next_text(line, 0);
     let two = next_text(line, one.past);
     let s = ascii::part(line, one.from, one.to);
     let t = ascii::part(line, two.from, two.to);
     match ascii::byte(line, 0) {
-        b'o' => origin(s),
-        b'e' => expression(s),
-        b'a' => admits(s, t),
-        b's' => same(s, t),
-        b'f' => feature(s),
-        b'l' => left(s),
-        _ => put(b"no case\n"),
+        b'o' => origin(rt, s),
+        b'e' => expression(rt, s),
+        b'a' => admits(rt, s, t),
+        b's' => same(rt, s, t),
+        b'f' => feature(rt, s),
+        b'l' => left(rt, s),
+        _ => put(rt, b"no case\n"),
     }
 }
 
 // Each line of a list is a case, and ends in a line feed.
-fn cases(list: &[u8]) {
+fn cases(rt: &impl Print, list: &[u8]) -> io::Result<()> {
     let mut i: usize = 0;
     while i < list.len() {
         let to = ascii::run_end(list, i, Class::Not(b'\n'));
-        case(ascii::part(list, i, to));
+        case(rt, ascii::part(list, i, to))?;
         i = to + 1;
     }
+    Ok(())
 }
 
 // Opaque origins that documents have, and numbers of no feature: no text says them.
-fn further_cases() {
-    put(b"opaque 1 and scheme https");
-    put_admits(b"https:", b"", OriginRange::Opaque(1));
-    put(b"opaque 1 and opaque 1");
-    put_answer(origins::same_origin(b"", OriginRange::Opaque(1), b"", OriginRange::Opaque(1)));
-    put(b"opaque 1 and opaque 2");
-    put_answer(origins::same_origin(b"", OriginRange::Opaque(1), b"", OriginRange::Opaque(2)));
-    put(b"no feature");
-    number(17);
-    put(b"no feature");
-    number(4_294_967_295);
+fn further_cases(rt: &impl Print) -> io::Result<()> {
+    put(rt, b"opaque 1 and scheme https")?;
+    put_admits(rt, b"https:", b"", OriginRange::Opaque(1))?;
+    put(rt, b"opaque 1 and opaque 1")?;
+    let one = origins::same_origin(b"", OriginRange::Opaque(1), b"", OriginRange::Opaque(1));
+    put_answer(rt, one)?;
+    put(rt, b"opaque 1 and opaque 2")?;
+    let two = origins::same_origin(b"", OriginRange::Opaque(1), b"", OriginRange::Opaque(2));
+    put_answer(rt, two)?;
+    put(rt, b"no feature")?;
+    number(rt, 17)?;
+    put(rt, b"no feature")?;
+    number(rt, 4_294_967_295)
 }
 
-fn main() {
-    let mut list = io::large_buffer();
-    let n = io::read_full(0, &mut list);
-    cases(&list[..n]);
-    further_cases();
+fn main(rt: HostRuntime) -> io::Result<()> {
+    let mut list = [0u8; LIST_BYTES];
+    let n = reading::read_full(&mut rt.stdin(), &mut list)?;
+    cases(&rt, &list[..n])?;
+    further_cases(&rt)
 }

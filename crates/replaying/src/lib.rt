@@ -8,12 +8,7 @@ ghost use Rattle.replaying.specs.Sessions.{out_bytes, Ready, Ends, Replayed};
 use ascii::Class;
 use documents::NewAnswer;
 use replay_lines::{LINE_BYTES, LineState};
-
-const STDIN: i32 = 0;
-
-const STDOUT: i32 = 1;
-
-const STDERR: i32 = 2;
+use std::io::Read;
 
 // The input is read in pieces of so many bytes.
 const IN_BYTES: usize = 2048;
@@ -30,19 +25,25 @@ struct Session {
     failed: bool,
 }
 
+// Tells a failure on standard error; where that can't be written, nothing is left to tell.
+fn tell(rt: &impl Eprint, failure: &str) {
+    let _ = rt.eprintln(failure);
+}
+
 // Writes the answers that wait; a failure is told once.
-fn flush(out: &[u8; OUT_BYTES], waiting: usize) -> bool
+fn flush(rt: &(impl Print + Eprint), out: &[u8; OUT_BYTES], waiting: usize) -> bool
     requires { waiting ≤ out_bytes }
 {
-    if io::write_all(STDOUT, ascii::part(out, 0, waiting)) {
+    if rt.write_all(ascii::part(out, 0, waiting)).is_ok() {
         return true;
     }
-    io::write_all(STDERR, b"replay: standard output can't be written\n");
+    tell(rt, "replay: standard output can't be written");
     false
 }
 
 // The line ends: its call is made, and its answer put behind those that wait; these are written where the next might not have room.
 fn end_line(
+    rt: &(impl Print + Eprint),
     run: &mut [u8],
     s: Session,
     texts: &[u8; LINE_BYTES],
@@ -64,7 +65,7 @@ fn end_line(
             failed: false,
         };
     }
-    let written = flush(out, to);
+    let written = flush(rt, out, to);
     Session {
         line,
         begun: false,
@@ -75,6 +76,7 @@ fn end_line(
 
 // A piece of the input: lines, the last perhaps to be continued.
 fn take_piece(
+    rt: &(impl Print + Eprint),
     run: &mut [u8],
     s: Session,
     piece: &[u8],
@@ -92,7 +94,7 @@ fn take_piece(
         cur.line = replay_lines::read(state, ascii::part(piece, i, e), texts);
         if e < piece.len() {
             let next = e + 1;
-            cur = end_line(run, cur, texts, out);
+            cur = end_line(rt, run, cur, texts, out);
             if cur.failed {
                 return cur;
             }
@@ -106,26 +108,32 @@ fn take_piece(
 }
 
 // The input ends, and so does a line that has begun; the answers that wait are written.
-fn finish(run: &mut [u8], s: Session, texts: &[u8; LINE_BYTES], out: &mut [u8; OUT_BYTES])
+fn finish(
+    rt: &(impl Print + Eprint),
+    run: &mut [u8],
+    s: Session,
+    texts: &[u8; LINE_BYTES],
+    out: &mut [u8; OUT_BYTES],
+)
     requires { Ready run.old s }
     ensures { Valid run.new }
 {
     if s.begun {
-        let last = end_line(run, s, texts, out);
+        let last = end_line(rt, run, s, texts, out);
         if !last.failed {
-            flush(out, last.waiting);
+            flush(rt, out, last.waiting);
         }
     } else {
-        flush(out, s.waiting);
+        flush(rt, out, s.waiting);
     }
 }
 
 // The session on a table, in at most 2^64 - 1 reads. Where a read fails, the line that had begun is dropped.
-fn replay(table: &mut [u8])
+fn replay(rt: &(impl Print + Eprint), input: &mut impl Read, table: &mut [u8])
     requires { Valid table.old }
     ensures { Valid table.new }
 {
-    let mut input = [0u8; IN_BYTES];
+    let mut piece = [0u8; IN_BYTES];
     let mut texts = [0u8; LINE_BYTES];
     let mut out = [0u8; OUT_BYTES];
     let line = replay_lines::new_line();
@@ -135,37 +143,31 @@ fn replay(table: &mut [u8])
         waiting: 0,
         failed: false,
     };
-    let mut left: u64 = 0xffff_ffff_ffff_ffff;
-    while 0 < left {
-        let got = libc::read(STDIN, &mut input);
-        if got < 0 {
-            io::write_all(STDERR, b"replay: standard input can't be read\n");
-            s.begun = false;
-            left = 0;
-        } else {
-            let n = io::count(got, &input);
-            if n == 0 {
-                left = 0;
-            } else {
-                s = take_piece(table, s, &input[..n], &mut texts, &mut out);
+    for _ in 0..u64::MAX {
+        match input.read(&mut piece) {
+            Ok(0) => break,
+            Ok(n) => {
+                s = take_piece(rt, table, s, &piece[..n], &mut texts, &mut out);
                 if s.failed {
                     return;
                 }
-                left -= 1;
+            }
+            Err(_) => {
+                tell(rt, "replay: standard input can't be read");
+                s.begun = false;
+                break;
             }
         }
     }
-    finish(table, s, &texts, &mut out);
+    finish(rt, table, s, &texts, &mut out);
 }
 
 // A session on a new table in a lent run; a run that is too short is told.
-pub fn run(table: &mut [u8])
+pub fn run(rt: &(impl Print + Eprint), input: &mut impl Read, table: &mut [u8])
     ensures { Replayed table.old table.new }
 {
     match documents::new_table(table) {
-        NewAnswer::Ready => replay(table),
-        NewAnswer::Refused(_) => {
-            io::write_all(STDERR, b"replay: the lent run is too short\n");
-        }
+        NewAnswer::Ready => replay(rt, input, table),
+        NewAnswer::Refused(_) => tell(rt, "replay: the lent run is too short"),
     }
 }

@@ -7,8 +7,7 @@ ghost use Rattle.documents.specs.Answers.{Valid};
 use document_loads::FrameMarks;
 use document_table::TABLE_BYTES;
 use documents::{FeaturesAnswer, ListingAnswer, LoadAnswer, NewAnswer, UnloadAnswer};
-
-const STDOUT: i32 = 1;
+use std::io;
 
 const OUT: usize = 2048;
 
@@ -16,42 +15,48 @@ const OUT: usize = 2048;
 const MEMORY: usize = 4_194_304;
 
 // Writes a case's name and its answer, a line.
-fn tell(name: &[u8], answer: &[u8]) {
-    io::write_all(STDOUT, name);
-    io::write_all(STDOUT, b": ");
-    io::write_all(STDOUT, answer);
-    io::write_all(STDOUT, b"\n");
+fn tell(rt: &impl Print, name: &[u8], answer: &[u8]) -> io::Result<()> {
+    rt.write_all(name)?;
+    rt.write_all(b": ")?;
+    rt.write_all(answer)?;
+    rt.write_all(b"\n")
 }
 
-fn tell_load(name: &[u8], a: LoadAnswer) {
+fn tell_load(rt: &impl Print, name: &[u8], a: LoadAnswer) -> io::Result<()> {
     let mut out = [0u8; OUT];
     let n = replay_answers::put_load(&mut out, 0, a);
-    tell(name, ascii::part(&out, 0, n));
+    tell(rt, name, ascii::part(&out, 0, n))
 }
 
-fn tell_features(name: &[u8], a: FeaturesAnswer) {
+fn tell_features(rt: &impl Print, name: &[u8], a: FeaturesAnswer) -> io::Result<()> {
     let mut out = [0u8; OUT];
     let n = replay_answers::put_features(&mut out, 0, a);
-    tell(name, ascii::part(&out, 0, n));
+    tell(rt, name, ascii::part(&out, 0, n))
 }
 
-fn tell_unload(name: &[u8], a: UnloadAnswer) {
+fn tell_unload(rt: &impl Print, name: &[u8], a: UnloadAnswer) -> io::Result<()> {
     let mut out = [0u8; OUT];
     let n = replay_answers::put_unload(&mut out, 0, a);
-    tell(name, ascii::part(&out, 0, n));
+    tell(rt, name, ascii::part(&out, 0, n))
 }
 
 // A listing's answer, and every place of the lent run.
-fn tell_listing(name: &[u8], a: ListingAnswer, run: &[u32]) {
+fn tell_listing(rt: &impl Print, name: &[u8], a: ListingAnswer, run: &[u32]) -> io::Result<()> {
     let mut out = [0u8; OUT];
     let n = replay_answers::put_listing(&mut out, 0, a, run);
-    tell(name, ascii::part(&out, 0, n));
+    tell(rt, name, ascii::part(&out, 0, n))?;
     let all = replay_answers::put_listing(&mut out, 0, ListingAnswer::Count(run.len()), run);
-    tell(b"  the lent run", ascii::part(&out, 0, all));
+    tell(rt, b"  the lent run", ascii::part(&out, 0, all))
 }
 
 // A frame of the first document, with marks and a sandbox text, arriving where its src points.
-fn frame(name: &[u8], run: &mut [u8], has_sandbox: bool, sandbox: &[u8])
+fn frame(
+    rt: &impl Print,
+    name: &[u8],
+    run: &mut [u8],
+    has_sandbox: bool,
+    sandbox: &[u8],
+) -> io::Result<()>
     requires { Valid run.old }
     ensures { Valid run.new }
 {
@@ -69,10 +74,16 @@ fn frame(name: &[u8], run: &mut [u8], has_sandbox: bool, sandbox: &[u8])
         sandbox,
         b"",
     );
-    tell_load(name, a);
+    tell_load(rt, name, a)
 }
 
-fn foretell(name: &[u8], run: &[u8], has_sandbox: bool, sandbox: &[u8])
+fn foretell(
+    rt: &impl Print,
+    name: &[u8],
+    run: &[u8],
+    has_sandbox: bool,
+    sandbox: &[u8],
+) -> io::Result<()>
     requires { Valid run.now }
 {
     let marks = FrameMarks {
@@ -80,149 +91,180 @@ fn foretell(name: &[u8], run: &[u8], has_sandbox: bool, sandbox: &[u8])
         has_sandbox,
     };
     let a = documents::forecast(run, 1, b"https://b.example", marks, b"", sandbox);
-    tell_features(name, a);
+    tell_features(rt, name, a)
 }
 
-fn frame_and_forecast(name: &[u8], run: &mut [u8], has_sandbox: bool, sandbox: &[u8])
+fn frame_and_forecast(
+    rt: &impl Print,
+    name: &[u8],
+    run: &mut [u8],
+    has_sandbox: bool,
+    sandbox: &[u8],
+) -> io::Result<()>
     requires { Valid run.old }
     ensures { Valid run.new }
 {
-    frame(name, run, has_sandbox, sandbox);
-    foretell(b"its forecast", run, has_sandbox, sandbox);
+    frame(rt, name, run, has_sandbox, sandbox)?;
+    foretell(rt, b"its forecast", run, has_sandbox, sandbox)
 }
 
 // A sandbox text of one byte too many, and one without that byte.
-fn long_texts(too_long: &[u8], longest: &[u8], run: &mut [u8], has_sandbox: bool)
+fn long_texts(
+    rt: &impl Print,
+    too_long: &[u8],
+    longest: &[u8],
+    run: &mut [u8],
+    has_sandbox: bool,
+) -> io::Result<()>
     requires { Valid run.old }
     ensures { Valid run.new }
 {
     let text = [b'a'; 4097];
-    frame_and_forecast(too_long, run, has_sandbox, &text);
-    frame_and_forecast(longest, run, has_sandbox, &text[..4096]);
+    frame_and_forecast(rt, too_long, run, has_sandbox, &text)?;
+    frame_and_forecast(rt, longest, run, has_sandbox, &text[..4096])
 }
 
 // A listing of what is beneath the first document, into a run of sevens.
-fn list(name: &[u8], run: &[u8], out: &mut [u32])
+fn list(rt: &impl Print, name: &[u8], run: &[u8], out: &mut [u32]) -> io::Result<()>
     requires { Valid run.now }
 {
     let a = documents::list_beneath(run, 1, out);
-    tell_listing(name, a, out);
+    tell_listing(rt, name, a, out)
 }
 
-fn frames(run: &mut [u8])
+fn frames(rt: &impl Print, run: &mut [u8]) -> io::Result<()>
     requires { Valid run.old }
     ensures { Valid run.new }
 {
     tell_load(
+        rt,
         b"a document at the top",
         documents::load_top(run, b"https://a.example", b""),
-    );
+    )?;
     long_texts(
+        rt,
         b"mark clear, sandbox text of 4,097 bytes",
         b"mark clear, sandbox text of 4,096 bytes",
         run,
         false,
-    );
+    )?;
     foretell(
+        rt,
         b"mark clear, `allow-forms` not read: its forecast",
         run,
         false,
         b"allow-forms",
-    );
+    )?;
     foretell(
+        rt,
         b"mark set, `allow-forms`: its forecast",
         run,
         true,
         b"allow-forms",
-    );
+    )
 }
 
-fn more_frames(run: &mut [u8])
+fn more_frames(rt: &impl Print, run: &mut [u8]) -> io::Result<()>
     requires { Valid run.old }
     ensures { Valid run.new }
 {
     long_texts(
+        rt,
         b"mark set, sandbox text of 4,097 bytes",
         b"mark set, sandbox text of 4,096 bytes",
         run,
         true,
-    );
+    )?;
     frame(
+        rt,
         b"mark clear, `allow-same-origin` not read",
         run,
         false,
         b"allow-same-origin",
-    );
+    )
 }
 
-fn listings(run: &mut [u8])
+fn listings(rt: &impl Print, run: &mut [u8]) -> io::Result<()>
     requires { Valid run.old }
     ensures { Valid run.new }
 {
-    tell_features(b"its features", documents::enabled_features(run, 3));
+    tell_features(rt, b"its features", documents::enabled_features(run, 3))?;
     let mut short = [7u32; 1];
-    list(b"a listing of two in one place", run, &mut short);
+    list(rt, b"a listing of two in one place", run, &mut short)?;
     let mut enough = [7u32; 2];
-    list(b"in two places", run, &mut enough);
+    list(rt, b"in two places", run, &mut enough)?;
     let mut more = [7u32; 4];
-    list(b"in four places", run, &mut more);
-    tell_unload(b"an unload of a serial to come", documents::unload(run, 9));
+    list(rt, b"in four places", run, &mut more)?;
+    tell_unload(
+        rt,
+        b"an unload of a serial to come",
+        documents::unload(run, 9),
+    )?;
     let mut again = [7u32; 4];
-    list(b"the listing after it", run, &mut again);
+    list(rt, b"the listing after it", run, &mut again)
 }
 
 // A sandbox text of 4,096 bytes whose last word is a keyword, and one byte more.
-fn last_keyword(run: &[u8])
+fn last_keyword(rt: &impl Print, run: &[u8]) -> io::Result<()>
     requires { Valid run.now }
 {
     let mut text = [b' '; 4097];
     writing::put(&mut text, 4085, b"allow-forms");
     let enough = ascii::part(&text, 0, 4096);
     foretell(
+        rt,
         b"mark clear, 4,096 bytes that end in `allow-forms`: its forecast",
         run,
         false,
         enough,
-    );
-    foretell(b"mark set: its forecast", run, true, enough);
+    )?;
+    foretell(rt, b"mark set: its forecast", run, true, enough)?;
     foretell(
+        rt,
         b"mark clear, one byte more: its forecast",
         run,
         false,
         &text,
-    );
-    foretell(b"mark set, one byte more: its forecast", run, true, &text);
+    )?;
+    foretell(
+        rt,
+        b"mark set, one byte more: its forecast",
+        run,
+        true,
+        &text,
+    )
 }
 
 // The same with the word that lifts the sandbox.
-fn last_word(run: &mut [u8])
+fn last_word(rt: &impl Print, run: &mut [u8]) -> io::Result<()>
     requires { Valid run.old }
     ensures { Valid run.new }
 {
     let mut text = [b' '; 4097];
     writing::put(&mut text, 4079, b"allow-same-origin");
     frame(
+        rt,
         b"mark set, 4,096 bytes that end in `allow-same-origin`",
         run,
         true,
         ascii::part(&text, 0, 4096),
-    );
-    frame(b"one byte more", run, true, &text);
-    tell_features(b"its features", documents::enabled_features(run, 4));
+    )?;
+    frame(rt, b"one byte more", run, true, &text)?;
+    tell_features(rt, b"its features", documents::enabled_features(run, 4))
 }
 
 // A new table in a lent run, and the cases on it.
-fn session(name: &[u8], run: &mut [u8]) {
+fn session(rt: &impl Print, name: &[u8], run: &mut [u8]) -> io::Result<()> {
     match documents::new_table(run) {
         NewAnswer::Ready => {
-            tell(name, b"ready");
-            frames(run);
-            more_frames(run);
-            listings(run);
-            last_keyword(run);
-            last_word(run);
+            tell(rt, name, b"ready")?;
+            frames(rt, run)?;
+            more_frames(rt, run)?;
+            listings(rt, run)?;
+            last_keyword(rt, run)?;
+            last_word(rt, run)
         }
-        NewAnswer::Refused(n) => tell_load(name, LoadAnswer::Refused(n)),
+        NewAnswer::Refused(n) => tell_load(rt, name, LoadAnswer::Refused(n)),
     }
 }
 
@@ -247,61 +289,64 @@ fn is_full(run: &[u8], b: u8) -> bool {
     true
 }
 
-fn tell_bytes(name: &[u8], run: &[u8], b: u8) {
+fn tell_bytes(rt: &impl Print, name: &[u8], run: &[u8], b: u8) -> io::Result<()> {
     if is_full(run, b) {
-        tell(name, b"unchanged");
+        tell(rt, name, b"unchanged")
     } else {
-        tell(name, b"changed");
+        tell(rt, name, b"changed")
     }
 }
 
 // The same in so many of the bytes of a run.
-fn session_in(name: &[u8], memory: &mut [u8], n: usize) {
+fn session_in(rt: &impl Print, name: &[u8], memory: &mut [u8], n: usize) -> io::Result<()> {
     if memory.len() < n {
-        return;
+        return Ok(());
     }
-    session(name, &mut memory[..n]);
+    session(rt, name, &mut memory[..n])
 }
 
 // Whether the bytes of a run past a table are that one.
-fn tell_past(memory: &[u8], b: u8) {
-    tell_bytes(
-        b"the memory past it",
-        ascii::part(memory, TABLE_BYTES, memory.len()),
-        b,
-    );
+fn tell_past(rt: &impl Print, memory: &[u8], b: u8) -> io::Result<()> {
+    let past = ascii::part(memory, TABLE_BYTES, memory.len());
+    tell_bytes(rt, b"the memory past it", past, b)
 }
 
 // "a new table in too short a run .. is refused with 9", and a refusal changes nothing.
-fn short_runs(memory: &mut [u8]) {
-    session_in(b"a new table in no bytes", memory, 0);
-    session_in(b"a new table in sixteen bytes", memory, 16);
-    session_in(b"a new table in one byte too few", memory, TABLE_BYTES - 1);
-    tell_bytes(b"the memory", memory, 255);
+fn short_runs(rt: &impl Print, memory: &mut [u8]) -> io::Result<()> {
+    session_in(rt, b"a new table in no bytes", memory, 0)?;
+    session_in(rt, b"a new table in sixteen bytes", memory, 16)?;
+    session_in(
+        rt,
+        b"a new table in one byte too few",
+        memory,
+        TABLE_BYTES - 1,
+    )?;
+    tell_bytes(rt, b"the memory", memory, 255)
 }
 
 // The same answers in a run of bytes 255 that is just long enough, over what that table left, and over zeros; the bytes past a table stay as they are.
-fn long_runs(memory: &mut [u8]) {
+fn long_runs(rt: &impl Print, memory: &mut [u8]) -> io::Result<()> {
     session_in(
+        rt,
         b"a new table in just enough bytes, all of them 255",
         memory,
         TABLE_BYTES,
-    );
-    tell_past(memory, 255);
-    session(b"a new table in 4 MiB, over the last one", memory);
-    tell_past(memory, 255);
+    )?;
+    tell_past(rt, memory, 255)?;
+    session(rt, b"a new table in 4 MiB, over the last one", memory)?;
+    tell_past(rt, memory, 255)?;
     fill(memory, 0);
-    session(b"a new table in 4 MiB of zeros", memory);
-    tell_past(memory, 0);
+    session(rt, b"a new table in 4 MiB of zeros", memory)?;
+    tell_past(rt, memory, 0)
 }
 
 // All the sessions, in one memory.
-fn sessions(memory: &mut [u8; MEMORY]) {
-    short_runs(memory);
-    long_runs(memory);
+fn sessions(rt: &impl Print, memory: &mut [u8; MEMORY]) -> io::Result<()> {
+    short_runs(rt, memory)?;
+    long_runs(rt, memory)
 }
 
-fn main() {
+fn main(rt: HostRuntime) -> io::Result<()> {
     let mut memory = [255u8; MEMORY];
-    sessions(&mut memory);
+    sessions(&rt, &mut memory)
 }

@@ -1,85 +1,57 @@
 // Reads one header on standard input, every byte as it comes, to its end, and writes its tidied form, or the refusal's number, and a line feed.
 #![tactic(auto)]
 
+ghost use Rattle.std.specs.Io.{ReadsAtMost};
+
 use limits::TEXT_BYTES;
+use std::io;
+use std::io::Read;
 use tidying::TidyAnswer;
 
-const STDIN: i32 = 0;
+// What is left of the input is read in pieces of so many bytes.
+const REST_BYTES: usize = 4096;
 
-const STDOUT: i32 = 1;
-
-const STDERR: i32 = 2;
-
-// What was read: how many bytes are kept, or a read failed.
-#[derive(Clone, Copy)]
-enum Input {
-    Bytes(usize),
-    Failed,
+// Reads what is left of the input and drops it, in at most 2^64 - 1 reads.
+fn read_rest(input: &mut impl Read) -> io::Result<()> {
+    let mut run = [0u8; REST_BYTES];
+    for _ in 0..u64::MAX {
+        if input.read(&mut run)? == 0 {
+            return Ok(());
+        }
+    }
+    Ok(())
 }
 
-// Reads what is left of the input and drops it, in at most 2^64 - 1 reads; false if one failed.
-fn read_rest() -> bool {
-    let mut run = io::buffer();
-    let mut left: u64 = 0xffff_ffff_ffff_ffff;
-    while 0 < left {
-        let got = libc::read(STDIN, &mut run);
-        if got < 0 {
-            return false;
-        }
-        if got == 0 {
-            return true;
-        }
-        left -= 1;
+// Reads the input to its end and keeps as much as the run has room for; the answer is how many bytes are kept.
+fn read_input(input: &mut impl Read, run: &mut [u8]) -> io::Result<usize>
+    ensures { ReadsAtMost result run.new }
+{
+    let n = reading::read_full(input, run)?;
+    if run.len() <= n {
+        read_rest(input)?;
     }
-    true
+    Ok(n)
 }
 
-// Reads the input to its end and keeps as much as the run has room for.
-fn read_input(run: &mut [u8]) -> Input {
-    let mut n: usize = 0;
-    while n < run.len() {
-        let got = libc::read(STDIN, &mut run[n..]);
-        if got < 0 {
-            return Input::Failed;
-        }
-        let k = io::count(got, &run[n..]);
-        if k == 0 {
-            return Input::Bytes(n);
-        }
-        n += k;
-    }
-    if read_rest() {
-        Input::Bytes(n)
-    } else {
-        Input::Failed
-    }
-}
-
-// Writes the answer to a header; false if not all of it was written.
-fn answer(header: &[u8]) -> bool {
+// Writes the answer to a header.
+fn answer(rt: &impl Print, header: &[u8]) -> io::Result<()> {
     let mut out = [0u8; TEXT_BYTES];
-    let done = match tidying::tidy(header, &mut out) {
-        TidyAnswer::Length(n) => io::write_all(STDOUT, ascii::part(&out, 0, n)),
-        TidyAnswer::Refused(r) => io::print_decimal(STDOUT, limits::refusal_number(r) as u64),
-    };
-    if done {
-        io::write_all(STDOUT, b"\n")
-    } else {
-        false
+    match tidying::tidy(header, &mut out) {
+        TidyAnswer::Length(n) => rt.write_all(ascii::part(&out, 0, n))?,
+        TidyAnswer::Refused(r) => rt.print(limits::refusal_number(r))?,
     }
+    rt.write_all(b"\n")
 }
 
-fn main() {
+fn main(rt: HostRuntime) {
     // One byte more than the limit tells a header that is too long.
     let mut run = [0u8; TEXT_BYTES + 1];
-    match read_input(&mut run) {
-        Input::Bytes(n) => {
-            if !answer(ascii::part(&run, 0, n)) {
-                io::write_all(STDERR, b"tidy: standard output can't be written\n");
-            }
-        }
-        Input::Failed => {
-            io::write_all(STDERR, b"tidy: standard input can't be read\n");
-        }
-    }
+    let told = match read_input(&mut rt.stdin(), &mut run) {
+        Ok(n) => match answer(&rt, ascii::part(&run, 0, n)) {
+            Ok(()) => Ok(()),
+            Err(_) => rt.eprintln("tidy: standard output can't be written"),
+        },
+        Err(_) => rt.eprintln("tidy: standard input can't be read"),
+    };
+    let _ = told;
 }

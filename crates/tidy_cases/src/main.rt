@@ -3,15 +3,14 @@
 
 ghost use Rattle.std.specs.Prelude.{◌<◌};
 
+use std::io;
 use tidying::TidyAnswer;
-
-const STDOUT: i32 = 1;
 
 // The lent runs hold this byte before a call; no tidied form has it.
 const OLD: u8 = b'#';
 
-fn put(s: &[u8]) {
-    io::write_all(STDOUT, s);
+fn put(rt: &impl Print, s: &[u8]) -> io::Result<()> {
+    rt.write_all(s)
 }
 
 // How many bytes of a run are the old ones.
@@ -58,50 +57,50 @@ fn repeat(buf: &mut [u8], at: usize, b: u8, times: usize) -> usize {
 }
 
 // Tidies a header into a lent run of so many bytes, and tells the answer, how many lent bytes are unchanged, and the text where it is short.
-fn tidy_into(name: &[u8], header: &[u8], run: &mut [u8]) {
-    put(name);
-    put(b": ");
+fn tidy_into(rt: &impl Print, name: &[u8], header: &[u8], run: &mut [u8]) -> io::Result<()> {
+    put(rt, name)?;
+    put(rt, b": ")?;
     match tidying::tidy(header, run) {
         TidyAnswer::Length(n) => {
-            put(b"length ");
-            io::print_decimal(STDOUT, n as u64);
+            put(rt, b"length ")?;
+            rt.print(n)?;
             if n < 64 {
-                put(b", ");
-                put(ascii::part(run, 0, n));
+                put(rt, b", ")?;
+                put(rt, ascii::part(run, 0, n))?;
             }
         }
         TidyAnswer::Refused(r) => {
-            put(b"refused ");
-            io::print_decimal(STDOUT, limits::refusal_number(r) as u64);
+            put(rt, b"refused ")?;
+            rt.print(limits::refusal_number(r))?;
         }
     }
-    put(b", unchanged ");
-    io::print_decimal(STDOUT, old_bytes(run) as u64);
-    put(b"\n");
+    put(rt, b", unchanged ")?;
+    rt.print(old_bytes(run))?;
+    put(rt, b"\n")
 }
 
 // With a run that is long enough for every tidied form.
-fn tidy_wide(name: &[u8], header: &[u8]) {
+fn tidy_wide(rt: &impl Print, name: &[u8], header: &[u8]) -> io::Result<()> {
     let mut run = [OLD; 4200];
-    tidy_into(name, header, &mut run);
+    tidy_into(rt, name, header, &mut run)
 }
 
-fn short_runs() {
+fn short_runs(rt: &impl Print) -> io::Result<()> {
     let mut none = [OLD; 0];
-    tidy_into(b"nothing into a run of 0", b"", &mut none);
-    tidy_into(b"camera=* into a run of 0", b"camera=*", &mut none);
-    tidy_into(b"malformed into a run of 0", b"camera=(", &mut none);
+    tidy_into(rt, b"nothing into a run of 0", b"", &mut none)?;
+    tidy_into(rt, b"camera=* into a run of 0", b"camera=*", &mut none)?;
+    tidy_into(rt, b"malformed into a run of 0", b"camera=(", &mut none)?;
     let mut seven = [OLD; 7];
-    tidy_into(b"camera=* into a run of 7", b"camera=*", &mut seven);
+    tidy_into(rt, b"camera=* into a run of 7", b"camera=*", &mut seven)?;
     let mut eight = [OLD; 8];
-    tidy_into(b"camera=* into a run of 8", b"camera=*", &mut eight);
+    tidy_into(rt, b"camera=* into a run of 8", b"camera=*", &mut eight)
 }
 
 // `camera=*` and spaces, so many bytes in all.
-fn spaces(name: &[u8], length: usize) {
+fn spaces(rt: &impl Print, name: &[u8], length: usize) -> io::Result<()> {
     let mut buf = [b' '; 4200];
     push(&mut buf, 0, b"camera=*");
-    tidy_wide(name, ascii::part(&buf, 0, length));
+    tidy_wide(rt, name, ascii::part(&buf, 0, length))
 }
 
 // Adds an expression whose host is so many bytes of one letter.
@@ -153,57 +152,63 @@ fn push_camera(buf: &mut [u8], first: usize, others: usize) -> usize {
 }
 
 // 02, R-4: 4,096 bytes for a tidied form. Here it is the header itself, into runs of several lengths.
-fn longest_form() {
+fn longest_form(rt: &impl Print) -> io::Result<()> {
     let mut buf = [0u8; 4200];
     let n = push_camera(&mut buf, 219, 219);
-    tidy_wide(b"a form of 4096", ascii::part(&buf, 0, n));
+    tidy_wide(rt, b"a form of 4096", ascii::part(&buf, 0, n))?;
     let mut short = [OLD; 4095];
     tidy_into(
+        rt,
         b"a form of 4096 into a run of 4095",
         ascii::part(&buf, 0, n),
         &mut short,
-    );
+    )?;
     let mut enough = [OLD; 4096];
     tidy_into(
+        rt,
         b"a form of 4096 into a run of 4096",
         ascii::part(&buf, 0, n),
         &mut enough,
-    );
+    )
 }
 
 // A header of 4,096 bytes whose form has a space more.
-fn longer_form() {
+fn longer_form(rt: &impl Print) -> io::Result<()> {
     let mut buf = [0u8; 4200];
     let n = push_camera(&mut buf, 219, 217);
     let k = push(&mut buf, n, b",usb=*");
-    tidy_wide(b"a form of 4097", ascii::part(&buf, 0, k));
+    tidy_wide(rt, b"a form of 4097", ascii::part(&buf, 0, k))?;
     let mut none = [OLD; 0];
     tidy_into(
+        rt,
         b"a form of 4097 into a run of 0",
         ascii::part(&buf, 0, k),
         &mut none,
-    );
+    )
 }
 
-fn main() {
+fn main(rt: HostRuntime) -> io::Result<()> {
     tidy_wide(
+        &rt,
         b"the example",
         b"usb=self,camera=(\"https://B.example:443\" self \"https://b.example\"),foo=1,forms=(self *)",
-    );
-    tidy_wide(b"the empty header", b"");
-    tidy_wide(b"a final line feed", b"camera=*\n");
-    tidy_wide(b"nothing known", b"foo=1, camera=1");
+    )?;
+    tidy_wide(&rt, b"the empty header", b"")?;
+    tidy_wide(&rt, b"a final line feed", b"camera=*\n")?;
+    tidy_wide(&rt, b"nothing known", b"foo=1, camera=1")?;
     tidy_wide(
+        &rt,
         b"ports and repeats",
         b"usb=(\"http://x:0443\" \"http://X:443\" \"https:\" self;a)",
-    );
+    )?;
     tidy_wide(
+        &rt,
         b"ports of both schemes",
         b"camera=(\"http://A:0080\" \"http://a\" \"http://a:80\" \"https://a:443\" \"https://a\")",
-    );
-    spaces(b"4096 bytes", 4096);
-    spaces(b"4097 bytes", 4097);
-    short_runs();
-    longest_form();
-    longer_form();
+    )?;
+    spaces(&rt, b"4096 bytes", 4096)?;
+    spaces(&rt, b"4097 bytes", 4097)?;
+    short_runs(&rt)?;
+    longest_form(&rt)?;
+    longer_form(&rt)
 }
