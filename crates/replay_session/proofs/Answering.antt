@@ -1,5 +1,5 @@
 -- What each line answers, in the terms of the code. Assumes nothing.
-use mathlib.Core.Path.{◌≡◌, refl, ap, ◌∙◌, sym, subst}
+use mathlib.Core.Path.{◌≡◌, refl, ap, ◌∙◌, subst}
 use Prim.Native.Nat.{ℕ, min}
 use mathlib.Core.List.{List}
 use native.Mathlib.Omega.{arith}
@@ -8,8 +8,6 @@ use lib.Seq.{length-take-le}
 use Prim.Native.Nat.{◌≤◌}
 use Rattle.limits.specs.Limits.{document_limit, text_bytes}
 use Rattle.ascii.specs.Texts.{part_in}
-use Rattle.ascii.specs.declared.TextRange.{TextRange}
-use Rattle.containers.specs.Attributes.{Attributes}
 use Rattle.tidying.specs.Tidied.{tidied}
 use Rattle.tidying.specs.Answers.{Answer as TidyOutcome, tidy_answer, IsTidied}
 use Rattle.tidying.specs.declared.TidyAnswer.{TidyAnswer}

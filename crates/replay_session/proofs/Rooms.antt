@@ -1,6 +1,6 @@
 -- A lent run of more places than an output can need is as good as one of just so many. Assumes nothing.
 use mathlib.Core.Path.{◌≡◌, refl, ap, ◌∙◌, sym}
-use Prim.Native.Nat.{ℕ, min, ◌+◌, ◌≤◌, ◌<◌}
+use Prim.Native.Nat.{ℕ, min, ◌≤◌, ◌<◌}
 use mathlib.Core.List.{List, ◌++◌}
 use mathlib.Core.Bool.{Bool, true, false}
 use mathlib.Core.Option.{Option, some, none}
@@ -13,11 +13,11 @@ use Rattle.limits.specs.Limits.{document_limit}
 use Rattle.limits.specs.Refusals.{refusal_number}
 use Rattle.limits.specs.declared.Refusal.TheVariants.{NotLoaded, Small}
 use Rattle.tidying.specs.Tidied.{tidied}
-use Rattle.tidying.specs.Answers.{Answer as TidyOutcome, length_is, refusal, tidy_answer, answer_in, run_after, IsTidied}
+use Rattle.tidying.specs.Answers.{Answer as TidyOutcome, length_is, refusal, tidy_answer, IsTidied}
 use Rattle.tidying.specs.declared.TidyAnswer.{TidyAnswer}
 use Rattle.tidying.specs.declared.TidyAnswer.TheVariants as tidy
 use Rattle.tidying.proofs.Rooms.{answer-length, run-accepted}
-use Rattle.document_model.specs.Model.{Text, Document, Table as ModelTable, find, serials_beneath, stored, listing, serials, refuse, accept, answer_to}
+use Rattle.document_model.specs.Model.{Document, Table as ModelTable, find, serials_beneath, stored, listing, serials, refuse, accept, answer_to}
 use Rattle.document_model.proofs.Laws.{beneath-fewer}
 use Rattle.document_model.proofs.Parts.{stored_is}
 use Rattle.document_model.proofs.RowByRow.{answer-of, listing-closed, listing-small, listing-answer}

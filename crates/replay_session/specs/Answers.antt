@@ -3,7 +3,7 @@ use Rattle.std.specs.Prelude.{ℕ, ◌≡◌, List}
 use Rattle.document_table.specs.Layout.{view}
 use Rattle.documents.specs.Bytes.{bytes_left}
 use Rattle.documents.specs.Answers.{Valid}
-use Rattle.document_model.specs.Model.{Text, Call, top_load, framed_load, unload, answer_to, table_left}
+use Rattle.document_model.specs.Model.{Call, top_load, framed_load, unload, answer_to, table_left}
 use Rattle.replay_answers.specs.Texts.{answer_text}
 use Rattle.replay_answers.specs.Promises.{Says}
 use Rattle.replay_lines.specs.Format.{Line}

@@ -1,5 +1,5 @@
 -- The replay format: what a line answers on a table of documents, and the table that it leaves.
-use Rattle.std.specs.Prelude.{ℕ, replicate}
+use Rattle.std.specs.Prelude.{replicate}
 use Rattle.tidying.specs.Tidied.{tidied}
 use Rattle.tidying.specs.Answers.{Answer as TidyAnswer, length_is, refusal, tidy_answer}
 use Rattle.document_model.specs.Model.{Text, Table, top_load, framed_load, unload, question, enabled_features, listing, forecast_of, answer_to, table_left}

@@ -1,8 +1,8 @@
 -- The numbers of answers, in the terms of the code. Assumes nothing.
-use mathlib.Core.Path.{◌≡◌, refl, ap, ◌∙◌, sym}
+use mathlib.Core.Path.{◌≡◌, ◌∙◌, sym}
 use Prim.Native.Nat.{ℕ, ◌+◌, ◌-◌, ◌/◌, ◌%◌}
 use mathlib.Core.List.{List}
-use mathlib.Core.Bool.{Bool, true, false}
+use mathlib.Core.Bool.{true, false}
 use lib.ListN.{length}
 use lib.Seq.{take-length}
 use native.Mathlib.Omega.{arith}
@@ -17,7 +17,7 @@ use Rattle.origins.specs.Answers.{origin_in}
 use Rattle.origins.specs.declared.Scheme.{Scheme}
 use Rattle.origins.specs.declared.Scheme.TheVariants.{Http, Https}
 use Rattle.origins.specs.declared.OriginRange.TheVariants as range
-use Rattle.allowlists.specs.Allowlists.{Allowlist, some_admits}
+use Rattle.allowlists.specs.Allowlists.{some_admits}
 use Rattle.allowlists.specs.Answers.{admission_as}
 use Rattle.allowlists.specs.declared.Admission.{Admission}
 use Rattle.settled.specs.Settled.{declared_in}

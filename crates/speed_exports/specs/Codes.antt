@@ -1,5 +1,5 @@
 -- The numbers that the exported functions answer with, for C and Rust.
-use Rattle.std.specs.Prelude.{ℕ, ◌+◌, ◌*◌, ◌/◌, ◌%◌, ◌≡◌, List, Bool, true, false, eqb}
+use Rattle.std.specs.Prelude.{ℕ, ◌+◌, ◌*◌, ◌/◌, ◌%◌, ◌≡◌, List, Bool, eqb}
 use Rattle.ascii.specs.Bytes.{pick}
 use Rattle.limits.specs.Refusals.{refusal_number}
 use Rattle.origins.specs.Origins.{TupleOrigin}
