@@ -104,6 +104,9 @@ fn fraction(s: &[u8], at: usize) -> Read
     if n <= 3 { Read::At(e) } else { Read::Malformed }
 }
 
+// RFC 8941 section 4.2.4: an integer has at most so many digits.
+const INTEGER_DIGITS: usize = 15;
+
 // A number without its sign.
 fn unsigned(s: &[u8], at: usize) -> Read
     ensures { IsRead s.now at result (unsigned_of (drop at s.now)) }
@@ -119,7 +122,7 @@ fn unsigned(s: &[u8], at: usize) -> Read
         }
         return Read::Malformed;
     }
-    if n <= 15 {
+    if n <= INTEGER_DIGITS {
         Read::At(e)
     } else {
         Read::Malformed

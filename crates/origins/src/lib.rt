@@ -585,7 +585,8 @@ fn parts_match(e: ExpressionParts, x: &[u8], o: TupleParts, h: &[u8], anycase: b
             }
         }
         HostKind::Subdomains => {
-            if is_subdomain(x, h, anycase) {
+            let beneath = is_subdomain(x, h, anycase);
+            if beneath {
                 port_admits(port, j, o.port)
             } else {
                 false

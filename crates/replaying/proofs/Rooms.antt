@@ -1,7 +1,7 @@
--- An answer and its line feed have room behind those that wait; and a run that is too short stays as it was. Assumes nothing.
+-- An answer and its line feed have room behind those that wait. Assumes nothing.
 use mathlib.Core.Path.{◌≡◌, refl, ap, sym, ◌∙◌}
-use Prim.Native.Nat.{ℕ, ◌+◌, ◌≤◌}
-use mathlib.Core.List.{List, [], ◌∷◌}
+use Prim.Native.Nat.{ℕ, ◌+◌, ◌≤◌, ◌<◌}
+use mathlib.Core.List.{List, [], ◌∷◌, ◌++◌}
 use mathlib.Core.Bool.{Bool, true, false}
 use mathlib.Core.Option.{some, none}
 use native.Mathlib.Omega.{arith}
@@ -9,6 +9,7 @@ use lib.ListN.{length, length-append}
 use lib.Dec.{ltb}
 use borrow.Author.Tests.{ltb-true, lt-ltb, le-ltb}
 use Rattle.ascii.specs.Bytes.{pick}
+use Rattle.ascii.proofs.Clash.{clash}
 use Rattle.limits.specs.declared.Refusal.{Refusal}
 use Rattle.limits.specs.Refusals.{refusal_number}
 use Rattle.writing.specs.Writing.{Puts}
@@ -21,7 +22,7 @@ use Rattle.replay_lines.specs.Reading.{new_reading}
 use Rattle.replay_lines.specs.Answers.{reading_in}
 use Rattle.replay_session.specs.Session.{line_answer, line_table}
 use Rattle.replay_session.specs.Answers.{line_bytes, Answers}
-use Rattle.documents.specs.Answers.{new_in, new_refusal, IsNew}
+use Rattle.documents.specs.Answers.{Valid, new_in, new_refusal, IsNew}
 use Rattle.documents.specs.declared.NewAnswer.{NewAnswer}
 use Rattle.documents.specs.declared.NewAnswer.TheVariants as made
 use Rattle.replaying.specs.declared.Session.{Session}
@@ -51,8 +52,20 @@ module _ (run u : List ℕ) (s : Session) (l : Line) (texts before after last : 
   pub next-written : (failed : Bool) → Ends run s texts u before last (record { line = line; begun = false; waiting = 0; failed = failed })
   next-written failed = record { ready = record { valid = a.valid; room = omega arith }; table = left; bytes = bytes; answer = both.run; waits = λ z. absurd (z refl); line = new }
 
--- a run that was too short for a table
+-- a new table that was made
+pub made-valid : (before after : List ℕ) (r : NewAnswer) → IsNew before after r → r ≡ made.Ready → Valid after
+made-valid before after r h e = h.valid e
+
+-- a session on it, and a run that was too short
 module _ (before table : List ℕ) (r : NewAnswer) (new : IsNew before table r) where
+  pub replayed-ready : (after : List ℕ) → r ≡ made.Ready → Valid after → Replayed before after
+  unfolding pick
+  replayed-ready after e v =
+      record {
+        short = λ h. (let q : new_refusal before ≡ some 9 = rw (lt-ltb (length before) table_bytes h) refl in let s : none ≡ new_refusal before = ap new_in (sym e) ∙ new.answer in clash cc);
+        valid = λ h. v;
+      }
+
   pub replayed-refused : (n : Refusal) → r ≡ made.Refused n → Replayed before table
   unfolding pick
   replayed-refused n e =

@@ -212,7 +212,8 @@ pub fn admits(d: &[u8], feature: u32, same: bool, t: &[u8], o: OriginRange) -> A
         ListFound::Undeclared => Admission::NoList,
         ListFound::All => Admission::Admitted,
         ListFound::Listed(l) => {
-            if l.own & same {
+            let own = l.own & same;
+            if own {
                 return Admission::Admitted;
             }
             allowlists::admission_of(sources_admit(d, l.at, l.count, t, o))

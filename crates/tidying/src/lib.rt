@@ -385,7 +385,8 @@ pub fn tidy(s: &[u8], out: &mut [u8]) -> TidyAnswer
             if TEXT_BYTES < n {
                 return TidyAnswer::Refused(Refusal::TooLong); // the output
             }
-            if out.len() < n {
+            let room = out.len();
+            if room < n {
                 return TidyAnswer::Refused(Refusal::Small);
             }
             let to = writing::put(out, 0, &buf[..n]);

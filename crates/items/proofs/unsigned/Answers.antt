@@ -15,10 +15,10 @@ pub returns-then-byte-eq46 : goal.returns-then-byte-eq46
 unfolding unsigned_of
 returns-then-byte-eq46 c = record { is = search reads depth 9 fits 20000; past = omega lows; upto = omega highs }
 
-pub returns-then-n-le15 : goal.returns-then-n-le15
+pub returns-then-n-le-INTEGER_DIGITS : goal.returns-then-n-le-INTEGER_DIGITS
 unfolding unsigned_of
-returns-then-n-le15 c = record { is = search reads depth 9 fits 20000; past = omega lows; upto = omega highs }
+returns-then-n-le-INTEGER_DIGITS c = record { is = search reads depth 9 fits 20000; past = omega lows; upto = omega highs }
 
-pub returns-else-n-le15 : goal.returns-else-n-le15
+pub returns-else-n-le-INTEGER_DIGITS : goal.returns-else-n-le-INTEGER_DIGITS
 unfolding unsigned_of
-returns-else-n-le15 c = record { is = search reads depth 9 fits 20000; past = omega lows; upto = omega highs }
+returns-else-n-le-INTEGER_DIGITS c = record { is = search reads depth 9 fits 20000; past = omega lows; upto = omega highs }

@@ -17,8 +17,8 @@ returns-then-same_host c = search match-exact
 pub returns-else-same_host : goal.returns-else-same_host
 returns-else-same_host c = search match-other
 
-pub returns-then-is_subdomain : goal.returns-then-is_subdomain
-returns-then-is_subdomain c = search match-subdomain
+pub returns-then-beneath : goal.returns-then-beneath
+returns-then-beneath c = search match-subdomain
 
-pub returns-else-is_subdomain : goal.returns-else-is_subdomain
-returns-else-is_subdomain c = search match-outside
+pub returns-else-beneath : goal.returns-else-beneath
+returns-else-beneath c = search match-outside

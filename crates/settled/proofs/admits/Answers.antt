@@ -2,8 +2,8 @@
 use Rattle.settled.proofs.Reading.{admits-undeclared, admits-all, admits-own, admits-listed}
 use Rattle.settled.proofs.admits.Goals as goal
 
-pub returns-then-l-same : goal.returns-then-l-same
-returns-then-l-same c = search (admits-undeclared, admits-all, admits-own, admits-listed)
+pub returns-then-own : goal.returns-then-own
+returns-then-own c = search (admits-undeclared, admits-all, admits-own, admits-listed)
 
 pub returns-in-Undeclared : goal.returns-in-Undeclared
 returns-in-Undeclared c = search (admits-undeclared, admits-all, admits-own, admits-listed)
@@ -11,5 +11,5 @@ returns-in-Undeclared c = search (admits-undeclared, admits-all, admits-own, adm
 pub returns-in-All : goal.returns-in-All
 returns-in-All c = search (admits-undeclared, admits-all, admits-own, admits-listed)
 
-pub returns-else-l-same : goal.returns-else-l-same
-returns-else-l-same c = search (admits-undeclared, admits-all, admits-own, admits-listed)
+pub returns-else-own : goal.returns-else-own
+returns-else-own c = search (admits-undeclared, admits-all, admits-own, admits-listed)

@@ -9,8 +9,8 @@ returns-then-f c = search malformed
 pub returns-then-n-gt-TEXT_BYTES : goal.returns-then-n-gt-TEXT_BYTES
 returns-then-n-gt-TEXT_BYTES c = search output-long
 
-pub returns-then-out-n : goal.returns-then-out-n
-returns-then-out-n c = search run_short
+pub returns-then-room-n : goal.returns-then-room-n
+returns-then-room-n c = search run_short
 
 pub slice_bounds-put-end : goal.slice_bounds-put-end
 slice_bounds-put-end c = simp length-take (omega arith)
@@ -21,5 +21,5 @@ returns-in-TooLong c = search input-long
 pub returns-in-NoRoom : goal.returns-in-NoRoom
 returns-in-NoRoom c = search never-small
 
-pub returns-else-out-n : goal.returns-else-out-n
-returns-else-out-n c = search written_out
+pub returns-else-room-n : goal.returns-else-room-n
+returns-else-room-n c = search written_out
