@@ -3,7 +3,7 @@ use mathlib.Core.Path.{◌≡◌, refl, ap, ◌∙◌, sym}
 use Prim.Native.Nat.{ℕ}
 use mathlib.Core.List.{List, [], ◌∷◌, ◌++◌, map}
 use mathlib.Core.Bool.{Bool, true, false, ◌&&◌, ◌||◌}
-use mathlib.Core.Option.{Option, some, none}
+use Rattle.std.specs.Prelude.{Option, Some, None}
 use Rattle.ascii.specs.Bytes.{pick}
 use Rattle.ascii.proofs.Bytes.{or-false, and-false, or-on, or-more}
 use Rattle.ascii.proofs.Clash.{clash}
@@ -15,7 +15,6 @@ use Rattle.origins.proofs.Laws.{admits-fresh, admits-opaque, fresh-right}
 use Rattle.allowlists.specs.Allowlists.{Allowlist, empty_list, Meaning, is_star, is_self, is_src, source_meaning, with_source, some_is, has_star, has_self, has_src, sources_of, allowlist, allowlist_of, any_admits, list_admits, allows, some_admits, meaning_admits}
 use Rattle.allowlists.specs.Allowlists.Allowlist.{all, listed}
 use Rattle.allowlists.specs.Allowlists.Meaning.{star, self, src, source, nothing}
-use Rattle.allowlists.specs.Answers.{admission_as, admission_in}
 use Rattle.allowlists.specs.Widening.{Wider, AsWide, AsWideOrOpened}
 use Rattle.allowlists.specs.Widening.AsWide.{neither, both}
 use Rattle.allowlists.specs.Widening.AsWideOrOpened.{as_wide, opened}
@@ -42,19 +41,13 @@ unfolding any_admits
 any-cons e es o = refl
 
 -- whether there is a list or not
-pub some-admits : (l : Allowlist) (a b : Bool) (o : Origin) → some_admits (some l) a b o ≡ some (list_admits l a b o)
+pub some-admits : (l : Allowlist) (a b : Bool) (o : Origin) → some_admits (Some l) a b o ≡ Some (list_admits l a b o)
 unfolding some_admits
 some-admits l a b o = refl
 
-pub none-admits : (a b : Bool) (o : Origin) → some_admits none a b o ≡ none
+pub none-admits : (a b : Bool) (o : Origin) → some_admits None a b o ≡ None
 unfolding some_admits
 none-admits a b o = refl
-
--- an answer says again what it was given for
-pub admission-back : (x : Option Bool) → admission_in (admission_as x) ≡ x
-admission-back (some true) = refl
-admission-back (some false) = refl
-admission-back none = refl
 
 -- a list with `*` is `*`, and one without has its parts
 pub star-all : (ms : List Meaning) → has_star ms ≡ true → allowlist_of ms ≡ all
@@ -99,7 +92,7 @@ unfolding some_is
 has-cons test m ms = refl
 
 -- a text that is an expression means it
-pub source-some : (e : SourceExpression) → source_meaning (some e) ≡ source e
+pub source-some : (e : SourceExpression) → source_meaning (Some e) ≡ source e
 unfolding source_meaning
 source-some e = refl
 
@@ -289,8 +282,8 @@ pub wider-self : (l : Allowlist) → Wider l l
 wider-self l = record { keeps = λ a b o e. e }
 
 pub as-wide-self : (d : Option Allowlist) → AsWide d d
-as-wide-self (some l) = both (wider-self l)
-as-wide-self none = neither
+as-wide-self (Some l) = both (wider-self l)
+as-wide-self None = neither
 
 -- from the empty list to whatever stands, nothing is taken away
 empty-wider : (l : Allowlist) → Wider empty_list l
@@ -299,6 +292,6 @@ empty-wider l = record { keeps = λ a b o e. nobody (list_admits empty_list a b 
     nobody : {b : Bool} (x : Bool) → x ≡ false → x ≡ true → b ≡ true
     nobody x f e = clash cc
 
-pub from_empty : (d : Option Allowlist) → AsWideOrOpened (some empty_list) d
-from_empty (some l) = as_wide (both (empty-wider l))
-from_empty none = opened
+pub from_empty : (d : Option Allowlist) → AsWideOrOpened (Some empty_list) d
+from_empty (Some l) = as_wide (both (empty-wider l))
+from_empty None = opened

@@ -1,6 +1,6 @@
 -- Source document 003, section 4.7: allowlists, and what an item of a header or a word of an attribute means in one.
 use Rattle.std.specs.Prelude.{List, [], ◌∷◌, Bool, true, false, ◌&&◌, ◌||◌}
-use Rattle.std.proofs.Math.Option.{Option, some, none}
+use Rattle.std.specs.Prelude.{Option, Some, None}
 use Rattle.ascii.specs.Bytes.{pick}
 use Rattle.origins.specs.Origins.{Origin}
 use Rattle.origins.specs.Expressions.{SourceExpression}
@@ -25,8 +25,8 @@ pub data Meaning : Type 0 where
 
 -- a text that may be an expression
 unfoldable pub source_meaning : Option SourceExpression → Meaning
-source_meaning (some e) = source e
-source_meaning none = nothing
+source_meaning (Some e) = source e
+source_meaning None = nothing
 
 abbrev pub is_star : Meaning → Bool
 is_star star = true
@@ -100,8 +100,8 @@ allows l self_origin src_origin o = list_admits l (same_origin self_origin o) (s
 
 -- whether the list that there may be admits an origin; no answer without a list
 unfoldable pub some_admits : Option Allowlist → Bool → Bool → Origin → Option Bool
-some_admits (some l) at_self at_src o = some (list_admits l at_self at_src o)
-some_admits none at_self at_src o = none
+some_admits (Some l) at_self at_src o = Some (list_admits l at_self at_src o)
+some_admits None at_self at_src o = None
 
 -- whether a list of one item or word admits an origin
 unfoldable pub meaning_admits : Meaning → Bool → Bool → Origin → Bool

@@ -1,6 +1,6 @@
 -- Demand 3: when one allowlist admits at least what another admits.
 use Rattle.std.specs.Prelude.{◌≡◌, Bool, true}
-use Rattle.std.proofs.Math.Option.{Option, some, none}
+use Rattle.std.specs.Prelude.{Option, Some, None}
 use Rattle.origins.specs.Origins.{Origin}
 use Rattle.allowlists.specs.Allowlists.{Allowlist, empty_list, list_admits}
 
@@ -10,10 +10,10 @@ pub record Wider (l m : Allowlist) : Type 0 where
 
 -- neither has a list, or both have and the second is as wide
 pub data AsWide : Option Allowlist → Option Allowlist → Type 0 where
-  neither : AsWide none none
-  both : {l m : Allowlist} → Wider l m → AsWide (some l) (some m)
+  neither : AsWide None None
+  both : {l m : Allowlist} → Wider l m → AsWide (Some l) (Some m)
 
 -- the second is as wide; or the first has the empty list, which admits nobody, and the second has none
 pub data AsWideOrOpened : Option Allowlist → Option Allowlist → Type 0 where
   as_wide : {c d : Option Allowlist} → AsWide c d → AsWideOrOpened c d
-  opened : AsWideOrOpened (some empty_list) none
+  opened : AsWideOrOpened (Some empty_list) None

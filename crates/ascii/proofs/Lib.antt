@@ -1,8 +1,10 @@
 pub mod Clash
 pub mod Bytes
 pub mod Texts
-pub mod Compares
 pub mod Reading
 pub mod Looping
 pub mod Suffixes
 pub mod Decimals
+mod Library
+pub mod DecimalReading
+mod Compares

@@ -1,8 +1,8 @@
 -- How a reading of a text goes by places. Assumes nothing.
 use mathlib.Core.Path.{◌≡◌, refl, ap, ◌∙◌, sym}
-use Prim.Native.Nat.{ℕ, ◌+◌, ◌-◌, ◌≤◌, ◌<◌, min}
+use Prim.Native.Nat.{ℕ, ◌+◌, ◌-◌, ◌*◌, ◌≤◌, ◌<◌, min}
 use mathlib.Core.List.{List, [], ◌∷◌, ◌++◌}
-use mathlib.Core.Option.{Option, some, none}
+use Rattle.std.specs.Prelude.{Option, Some, None}
 use mathlib.Core.Bool.{Bool, true, false, not, ◌||◌}
 use native.Mathlib.Omega.{arith}
 use native.Mathlib.Numerals.{add-one}
@@ -14,15 +14,11 @@ use borrow.Author.Rules.{rules}
 use Rattle.ascii.proofs.Clash.{clash}
 use Rattle.ascii.proofs.Bytes.{or-on}
 use Rattle.ascii.specs.Bytes.{pick, within, is_key_start, is_key_byte, is_token_start, is_token_byte, is_lower, is_digit, is_alpha}
-use Rattle.ascii.specs.Classes.{in_class}
-use Rattle.ascii.specs.declared.Class.TheVariants.{Key, Token}
 use Rattle.ascii.specs.Reading.{Parsed, Step, head_of, head_is, is_empty, next, skip, let_len, run_of, past, after, mapped, going}
 use Rattle.ascii.specs.Reading.Parsed.{parsed, malformed}
 use Rattle.ascii.specs.Reading.Step.{more, done, fail}
 use Rattle.ascii.specs.Places.{rest_of, left_at, went_of, went_at, Went, low, high, low_more, low_done, high_turn}
 use Rattle.ascii.specs.Places.Went.{goes, ends}
-use Rattle.ascii.specs.declared.Read.{Read}
-use Rattle.ascii.specs.declared.Read.TheVariants as read
 use Rattle.ascii.specs.declared.Turn.{Turn}
 use Rattle.ascii.specs.declared.Turn.TheVariants as turn
 
@@ -109,11 +105,11 @@ token-starts b h = go (is_alpha b) h
     go true e = refl
     go false e = simp (or-on (is_digit b || eqb b 33 || within 35 39 b) (eqb b 42) e)
 
-pub key-run : (s : List ℕ) (i q : ℕ) → head_is is_key_start (drop i s) ≡ true → i < length s → drop q s ≡ past (in_class Key) (drop (i + 1) s) → drop q s ≡ past is_key_byte (drop i s)
+pub key-run : (s : List ℕ) (i q : ℕ) → head_is is_key_start (drop i s) ≡ true → i < length s → drop q s ≡ past is_key_byte (drop (i + 1) s) → drop q s ≡ past is_key_byte (drop i s)
 unfolding head_is
 key-run s i q t h e = run-from is_key_byte s i q (key-starts (head_of (drop i s)) t) h e
 
-pub token-run : (s : List ℕ) (i q : ℕ) → head_is is_token_start (drop i s) ≡ true → i < length s → drop q s ≡ past (in_class Token) (drop (i + 1) s) → drop q s ≡ past is_token_byte (drop i s)
+pub token-run : (s : List ℕ) (i q : ℕ) → head_is is_token_start (drop i s) ≡ true → i < length s → drop q s ≡ past is_token_byte (drop (i + 1) s) → drop q s ≡ past is_token_byte (drop i s)
 unfolding head_is
 token-run s i q t h e = run-from is_token_byte s i q (token-starts (head_of (drop i s)) t) h e
 
@@ -168,7 +164,19 @@ module _ (p : ℕ → Bool) (s : List ℕ) (i : ℕ) where
   pub class-of-yes : (x : ℕ) (b : Bool) → x ≡ head_of (drop i s) → b ≡ p x → not b ≡ false → head_is p (drop i s) ≡ true
   class-of-yes x b u e f = class_of x b true u e (not-false b f)
 
-pub ruleset tests = (told, told_not, told-yes, told-eq, told-ne, or_left, or_right, or-none, empty-yes, empty-no, end-ne, class-end, class-in, class-not, class-yes, class_of, class-of-not, class-of-yes)
+-- a byte of a class that 0 is not of stands within the text
+pub class-within : (p : ℕ → Bool) (s : List ℕ) (i x : ℕ) (b : Bool) → x ≤ 255 * (length s - i) → p 0 ≡ false → b ≡ p x → b ≡ true → i < length s
+class-within p s i x b t z e f = go (leb (length s) i) refl
+  where
+    go : (l : Bool) → leb (length s) i ≡ l → i < length s
+    go true u = let o : length s ≤ i = leb-true (length s) i u in let n : x ≡ 0 = omega arith in let w : p 0 ≡ true = rw n at (sym e ∙ f) in clash cc
+    go false u = leb-false (length s) i u
+
+-- one of two bytes, or neither
+pub told-either : (a a' n m : ℕ) (v : Bool) → a' ≡ a → eqb a' n || eqb a' m ≡ v → eqb a n || eqb a m ≡ v
+told-either a a' n m v e f = rw (← e) f
+
+pub ruleset tests = (told-either, told, told_not, told-yes, told-eq, told-ne, or_left, or_right, or-none, empty-yes, empty-no, end-ne, class-end, class-in, class-not, class-yes, class_of, class-of-not, class-of-yes)
 
 -- what is left of a reading
 module _ {A : Type 0} (s : List ℕ) (R : Option (List ℕ)) where
@@ -188,14 +196,14 @@ module _ {A : Type 0} (s : List ℕ) (R : Option (List ℕ)) where
   unfolding skip
   rest-skip p i q f e h = rw (← e) h
 
-  pub rest-after : {B : Type 0} (a : Parsed B) (r : Read) (q : ℕ) (f : B → List ℕ → Parsed A) → left_at s r ≡ rest_of a → r ≡ read.At q → ((x : B) → R ≡ rest_of (f x (drop q s))) → R ≡ rest_of (after a f)
+  pub rest-after : {B : Type 0} (a : Parsed B) (r : Option ℕ) (q : ℕ) (f : B → List ℕ → Parsed A) → left_at s r ≡ rest_of a → r ≡ Some q → ((x : B) → R ≡ rest_of (f x (drop q s))) → R ≡ rest_of (after a f)
   unfolding after rest_of left_at
   rest-after (parsed x l) r q f e g h =
-      let d : some (drop q s) ≡ some l = sym (ap (left_at s) g) ∙ e in
+      let d : Some (drop q s) ≡ Some l = sym (ap (left_at s) g) ∙ e in
       let m : drop q s ≡ l = cc in
       rw (← m) (h x)
   rest-after malformed r q f e g h =
-      let d : some (drop q s) ≡ none = sym (ap (left_at s) g) ∙ e in
+      let d : Some (drop q s) ≡ None = sym (ap (left_at s) g) ∙ e in
       clash cc
 
 pub rest-map : {A B : Type 0} (R : Option (List ℕ)) (g : A → B) (a : Parsed A) → R ≡ rest_of a → R ≡ rest_of (mapped g a)
@@ -229,18 +237,18 @@ module _ {A : Type 0} (s : List ℕ) (R : Option (List ℕ)) (p : ℕ → Bool) 
 pub run-some : (i e : ℕ) → i < e → eqb (e - i) 0 ≡ false
 run-some i e h = ne_eqb (e - i) 0 (λ z. omega arith)
 
-pub rest-malformed : {A B : Type 0} (s : List ℕ) (a : Parsed B) (r : Read) (f : B → List ℕ → Parsed A) → left_at s r ≡ rest_of a → r ≡ read.Malformed → left_at s read.Malformed ≡ rest_of (after a f)
+pub rest-malformed : {A B : Type 0} (s : List ℕ) (a : Parsed B) (r : Option ℕ) (f : B → List ℕ → Parsed A) → left_at s r ≡ rest_of a → r ≡ None → left_at s None ≡ rest_of (after a f)
 unfolding after rest_of left_at
 rest-malformed s (parsed x l) r f e g =
-    let d : none ≡ some l = sym (ap (left_at s) g) ∙ e in
+    let d : None ≡ Some l = sym (ap (left_at s) g) ∙ e in
     clash cc
 rest-malformed s malformed r f e g = refl
 
-pub rest-parsed : {A : Type 0} (s : List ℕ) (x : A) (q : ℕ) (l : List ℕ) → drop q s ≡ l → left_at s (read.At q) ≡ rest_of (parsed x l)
+pub rest-parsed : {A : Type 0} (s : List ℕ) (x : A) (q : ℕ) (l : List ℕ) → drop q s ≡ l → left_at s (Some q) ≡ rest_of (parsed x l)
 unfolding rest_of left_at
-rest-parsed s x q l e = ap some e
+rest-parsed s x q l e = ap Some e
 
-pub rest-none : (A : Type 0) (s : List ℕ) → left_at s read.Malformed ≡ rest_of {A = A} malformed
+pub rest-none : (A : Type 0) (s : List ℕ) → left_at s None ≡ rest_of {A = A} malformed
 unfolding rest_of left_at
 rest-none A s = refl
 
@@ -268,55 +276,55 @@ module _ {A : Type 0} (s : List ℕ) (R : Went) where
   unfolding skip
   went-skip p i q f e h = rw (← e) h
 
-  pub went-after : {B : Type 0} (a : Parsed B) (r : Read) (q : ℕ) (f : B → List ℕ → Step A) → left_at s r ≡ rest_of a → r ≡ read.At q → ((x : B) → R ≡ went_of (f x (drop q s))) → R ≡ went_of (going a f)
+  pub went-after : {B : Type 0} (a : Parsed B) (r : Option ℕ) (q : ℕ) (f : B → List ℕ → Step A) → left_at s r ≡ rest_of a → r ≡ Some q → ((x : B) → R ≡ went_of (f x (drop q s))) → R ≡ went_of (going a f)
   unfolding going rest_of left_at
   went-after (parsed x l) r q f e g h =
-      let d : some (drop q s) ≡ some l = sym (ap (left_at s) g) ∙ e in
+      let d : Some (drop q s) ≡ Some l = sym (ap (left_at s) g) ∙ e in
       let m : drop q s ≡ l = cc in
       rw (← m) (h x)
   went-after malformed r q f e g h =
-      let d : some (drop q s) ≡ none = sym (ap (left_at s) g) ∙ e in
+      let d : Some (drop q s) ≡ None = sym (ap (left_at s) g) ∙ e in
       clash cc
 
-pub went-malformed : {A B : Type 0} (s : List ℕ) (a : Parsed B) (r : Read) (f : B → List ℕ → Step A) → left_at s r ≡ rest_of a → r ≡ read.Malformed → went_at s turn.Malformed ≡ went_of (going a f)
+pub went-malformed : {A B : Type 0} (s : List ℕ) (a : Parsed B) (r : Option ℕ) (f : B → List ℕ → Step A) → left_at s r ≡ rest_of a → r ≡ None → went_at s None ≡ went_of (going a f)
 unfolding going rest_of left_at went_of went_at
 went-malformed s (parsed x l) r f e g =
-    let d : none ≡ some l = sym (ap (left_at s) g) ∙ e in
+    let d : None ≡ Some l = sym (ap (left_at s) g) ∙ e in
     clash cc
 went-malformed s malformed r f e g = refl
 
 module _ {A : Type 0} (s : List ℕ) where
-  pub went-more : (x : List A) (q : ℕ) (l : List ℕ) → drop q s ≡ l → went_at s (turn.More q) ≡ went_of (more x l)
+  pub went-more : (x : List A) (q : ℕ) (l : List ℕ) → drop q s ≡ l → went_at s (Some (turn.More q)) ≡ went_of (more x l)
   unfolding went_of went_at
   went-more x q l e = ap goes e
 
-  pub went-done : (x : List A) (q : ℕ) (l : List ℕ) → drop q s ≡ l → went_at s (turn.Done q) ≡ went_of (done x l)
+  pub went-done : (x : List A) (q : ℕ) (l : List ℕ) → drop q s ≡ l → went_at s (Some (turn.Done q)) ≡ went_of (done x l)
   unfolding went_of went_at
   went-done x q l e = ap ends e
 
-pub went-failed : (A : Type 0) (s : List ℕ) → went_at s turn.Malformed ≡ went_of {A = A} fail
+pub went-failed : (A : Type 0) (s : List ℕ) → went_at s None ≡ went_of {A = A} fail
 unfolding went_of went_at
 went-failed A s = refl
 
 pub ruleset goings = (went-yes, went-no, went-next, went-skip, went-after, went-malformed, went-more, went-done, went-failed, two-on, tests)
 
 -- rules for `omega`
-pub low-at : (r : Read) (q : ℕ) → r ≡ read.At q → low r ≡ q
+pub low-at : (r : Option ℕ) (q : ℕ) → r ≡ Some q → low r ≡ q
 low-at r q e = ap low e
 
-pub high-at : (r : Read) (q : ℕ) → r ≡ read.At q → high r ≡ q
+pub high-at : (r : Option ℕ) (q : ℕ) → r ≡ Some q → high r ≡ q
 high-at r q e = ap high e
 
-pub go-low : (t : Turn) (q : ℕ) → t ≡ turn.More q → low_more t ≡ q
+pub go-low : (t : Option Turn) (q : ℕ) → t ≡ Some (turn.More q) → low_more t ≡ q
 go-low t q e = ap low_more e
 
-pub go-high : (t : Turn) (q : ℕ) → t ≡ turn.More q → high_turn t ≡ q
+pub go-high : (t : Option Turn) (q : ℕ) → t ≡ Some (turn.More q) → high_turn t ≡ q
 go-high t q e = ap high_turn e
 
-pub done-low : (t : Turn) (q : ℕ) → t ≡ turn.Done q → low_done t ≡ q
+pub done-low : (t : Option Turn) (q : ℕ) → t ≡ Some (turn.Done q) → low_done t ≡ q
 done-low t q e = ap low_done e
 
-pub done-high : (t : Turn) (q : ℕ) → t ≡ turn.Done q → high_turn t ≡ q
+pub done-high : (t : Option Turn) (q : ℕ) → t ≡ Some (turn.Done q) → high_turn t ≡ q
 done-high t q e = ap high_turn e
 
 pub ruleset lows = (arith, low-at, go-low, done-low)

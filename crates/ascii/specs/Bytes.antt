@@ -1,5 +1,5 @@
 -- Bytes, as numbers: their classes and ASCII case.
-use Rattle.std.specs.Prelude.{ℕ, ◌+◌, Bool, true, false, ◌||◌, ◌&&◌, leb, eqb}
+use Rattle.std.specs.Prelude.{ℕ, ◌+◌, Bool, true, false, not, ◌||◌, ◌&&◌, leb, eqb}
 
 -- a choice by a test
 unfoldable pub pick : {A : Type 0} → Bool → A → A → A
@@ -61,6 +61,10 @@ is_blank b = eqb b 32 || eqb b 9
 -- 01, "Header and attribute": "tabs, line feeds, form feeds, returns and spaces"
 abbrev pub is_white : ℕ → Bool
 is_white b = eqb b 9 || eqb b 10 || eqb b 12 || eqb b 13 || eqb b 32
+
+-- the bytes that don't pass a test
+abbrev pub outside : (ℕ → Bool) → ℕ → Bool
+outside p b = not (p b)
 
 -- ASCII lower case
 unfoldable pub lower : ℕ → ℕ

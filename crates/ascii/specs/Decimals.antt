@@ -1,6 +1,9 @@
 -- Numbers in decimal: read, and written.
-use Rattle.std.specs.Prelude.{ℕ, zero, suc, ◌+◌, ◌-◌, ◌*◌, ◌/◌, ◌%◌, List, [], ◌∷◌, ◌++◌, Bool, true, false, ◌&&◌, length, ltb, eqb}
-use Rattle.ascii.specs.Reading.{head_of}
+use Rattle.std.specs.Prelude.{ℕ, zero, suc, ◌+◌, ◌-◌, ◌*◌, ◌/◌, ◌%◌, List, [], ◌∷◌, ◌++◌, Bool, true, false, not, ◌&&◌, length, leb, ltb, eqb}
+use Rattle.std.specs.Prelude.{Option, Some, None}
+use Rattle.ascii.specs.Bytes.{pick, is_digit}
+use Rattle.ascii.specs.Texts.{every}
+use Rattle.ascii.specs.Reading.{head_of, is_empty}
 
 -- digits read in decimal, after a number that stands before them
 unfoldable pub decimal_from : ℕ → List ℕ → ℕ
@@ -9,6 +12,10 @@ decimal_from n (d ∷ ds) = decimal_from (n * 10 + (d - 48)) ds
 
 abbrev pub decimal : List ℕ → ℕ
 decimal ds = decimal_from 0 ds
+
+-- the number that one digit or more say, worth at most so much
+unfoldable pub decimal_upto : ℕ → List ℕ → Option ℕ
+decimal_upto most ds = pick (not (is_empty ds) && every is_digit ds && leb (decimal ds) most) (Some (decimal ds)) None
 
 -- a zero before another digit
 unfoldable pub leads_zero : List ℕ → Bool

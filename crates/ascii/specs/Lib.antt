@@ -1,5 +1,4 @@
 pub mod Bytes
-pub mod Classes
 pub mod Literals
 pub mod Texts
 pub mod Reading

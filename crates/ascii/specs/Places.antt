@@ -1,13 +1,9 @@
 -- What the code's answers, places of a text, say of the readings.
-use Rattle.std.specs.Prelude.{ℕ, ◌-◌, ◌*◌, ◌^◌, ◌≤◌, ◌<◌, min, ◌≡◌, List, length, drop}
-use Rattle.std.proofs.Math.Option.{Option, some, none}
-use Rattle.ascii.specs.Classes.{in_class}
-use Rattle.ascii.specs.declared.Class.{Class}
+use Rattle.std.specs.Prelude.{Bool, ℕ, ◌-◌, ◌*◌, ◌^◌, ◌≤◌, ◌<◌, min, ◌≡◌, List, length, drop}
+use Rattle.std.specs.Prelude.{Option, Some, None}
 use Rattle.ascii.specs.Reading.{Parsed, Step, head_of, past}
 use Rattle.ascii.specs.Reading.Parsed.{parsed, malformed}
 use Rattle.ascii.specs.Reading.Step.{more, done, fail}
-use Rattle.ascii.specs.declared.Read.{Read}
-use Rattle.ascii.specs.declared.Read.TheVariants as read
 use Rattle.ascii.specs.declared.Turn.{Turn}
 use Rattle.ascii.specs.declared.Turn.TheVariants as turn
 
@@ -16,38 +12,38 @@ pub record IsByte (s : List ℕ) (at r : ℕ) : Type 0 where
   pub is : r ≡ head_of (drop at s)
   pub there : r ≤ 255 * (length s - at)
 
--- from the answer on stands what is left past the run, and the answer is a place of the text
-pub record IsRun (k : Class) (s : List ℕ) (at r : ℕ) : Type 0 where
-  pub is : drop r s ≡ past (in_class k) (drop at s)
+-- a run of bytes that pass a test: from the answer on stands what is left past it, and the answer is a place of the text
+pub record IsRun (p : ℕ → Bool) (s : List ℕ) (at r : ℕ) : Type 0 where
+  pub is : drop r s ≡ past p (drop at s)
   pub from : min at (length s) ≤ r
   pub upto : r ≤ length s
 
 -- what is left, by a reading and by an answer
 unfoldable pub rest_of : {A : Type 0} → Parsed A → Option (List ℕ)
-rest_of (parsed a l) = some l
-rest_of malformed = none
+rest_of (parsed a l) = Some l
+rest_of malformed = None
 
-unfoldable pub left_at : List ℕ → Read → Option (List ℕ)
-left_at s (read.At q) = some (drop q s)
-left_at s read.Malformed = none
+unfoldable pub left_at : List ℕ → Option ℕ → Option (List ℕ)
+left_at s (Some q) = Some (drop q s)
+left_at s None = None
 
 -- the place that an answer names, as a bound from below and from above
-abbrev pub low : Read → ℕ
-low (read.At q) = q
-low read.Malformed = 2 ^ 64
+abbrev pub low : Option ℕ → ℕ
+low (Some q) = q
+low None = 2 ^ 64
 
-abbrev pub high : Read → ℕ
-high (read.At q) = q
-high read.Malformed = 0
+abbrev pub high : Option ℕ → ℕ
+high (Some q) = q
+high None = 0
 
 -- the answer is the reading's, lies past its start, and within the text
-pub record IsRead {A : Type 0} (s : List ℕ) (at : ℕ) (r : Read) (want : Parsed A) : Type 0 where
+pub record IsRead {A : Type 0} (s : List ℕ) (at : ℕ) (r : Option ℕ) (want : Parsed A) : Type 0 where
   pub is : left_at s r ≡ rest_of want
   pub past : at < low r
   pub upto : high r ≤ length s
 
 -- the same, where nothing need be read
-pub record IsFrom {A : Type 0} (s : List ℕ) (at : ℕ) (r : Read) (want : Parsed A) : Type 0 where
+pub record IsFrom {A : Type 0} (s : List ℕ) (at : ℕ) (r : Option ℕ) (want : Parsed A) : Type 0 where
   pub is : left_at s r ≡ rest_of want
   pub from : min at (length s) ≤ low r
   pub upto : high r ≤ length s
@@ -63,28 +59,28 @@ went_of (more a l) = goes l
 went_of (done a l) = ends l
 went_of fail = fails
 
-unfoldable pub went_at : List ℕ → Turn → Went
-went_at s (turn.More q) = goes (drop q s)
-went_at s (turn.Done q) = ends (drop q s)
-went_at s turn.Malformed = fails
+unfoldable pub went_at : List ℕ → Option Turn → Went
+went_at s (Some (turn.More q)) = goes (drop q s)
+went_at s (Some (turn.Done q)) = ends (drop q s)
+went_at s None = fails
 
-abbrev pub low_more : Turn → ℕ
-low_more (turn.More q) = q
-low_more (turn.Done q) = 2 ^ 64
-low_more turn.Malformed = 2 ^ 64
+abbrev pub low_more : Option Turn → ℕ
+low_more (Some (turn.More q)) = q
+low_more (Some (turn.Done q)) = 2 ^ 64
+low_more None = 2 ^ 64
 
-abbrev pub low_done : Turn → ℕ
-low_done (turn.More q) = 2 ^ 64
-low_done (turn.Done q) = q
-low_done turn.Malformed = 2 ^ 64
+abbrev pub low_done : Option Turn → ℕ
+low_done (Some (turn.More q)) = 2 ^ 64
+low_done (Some (turn.Done q)) = q
+low_done None = 2 ^ 64
 
-abbrev pub high_turn : Turn → ℕ
-high_turn (turn.More q) = q
-high_turn (turn.Done q) = q
-high_turn turn.Malformed = 0
+abbrev pub high_turn : Option Turn → ℕ
+high_turn (Some (turn.More q)) = q
+high_turn (Some (turn.Done q)) = q
+high_turn None = 0
 
 -- the answer is the turn's; one that another follows takes at least a byte
-pub record IsTurn {A : Type 0} (s : List ℕ) (at : ℕ) (r : Turn) (want : Step A) : Type 0 where
+pub record IsTurn {A : Type 0} (s : List ℕ) (at : ℕ) (r : Option Turn) (want : Step A) : Type 0 where
   pub is : went_at s r ≡ went_of want
   pub past : at < low_more r
   pub from : at ≤ low_done r

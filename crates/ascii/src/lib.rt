@@ -1,89 +1,168 @@
 // Bytes and places of a text: classes, ASCII case, comparing, parts, runs.
 #![tactic(auto)]
 
-ghost use Rattle.std.specs.Prelude.{◌≡◌, ◌+◌, ◌≤◌, min, length, drop};
-ghost use Rattle.ascii.specs.Bytes.{is_space, is_blank, is_digit, is_upper, is_key_start, is_key_byte, is_token_start, is_token_byte, is_base64, is_text, is_label_byte, is_white, lower};
-ghost use Rattle.ascii.specs.Classes.{in_class};
-ghost use Rattle.ascii.specs.Texts.{same_bytes, same_lowered, four_same, part_of};
-ghost use Rattle.ascii.specs.Places.{IsByte, IsRun};
-ghost use Rattle.ascii.specs.declared.Class.TheVariants.{Space, Blank, Key, Token};
+ghost use Rattle.std.specs.List.{list_all, zip, take_while};
+ghost use Rattle.std.specs.Prelude.{◌==◌, ◌≡◌, ℕ, Bool, List, not, eqb, ◌+◌, ◌-◌, ◌≤◌, min, length, drop};
+ghost use Rattle.ascii.specs.Bytes.{is_space, is_blank, is_digit, is_key_start, is_key_byte, is_token_start, is_token_byte, is_base64, is_text, is_label_byte, is_white, lower};
+ghost use Rattle.ascii.specs.Texts.{four_same, same_bytes, same_lowered, part_of, part_in};
+ghost use Rattle.ascii.specs.Decimals.{decimal_upto};
+ghost use Rattle.ascii.specs.Places.{IsByte, IsRun, IsFrom, IsTurn};
+ghost use Rattle.ascii.specs.Reading.{Step, turns_of};
 
-pub fn is_space(b: u8) -> bool
-    ensures { result ≡ is_space b }
-{
-    b == b' '
+// A class of bytes: what the bytes of a run have in common.
+pub trait Class: Copy {
+    ghost holds: { Self → ℕ → Bool };
+
+    fn has(self, b: u8) -> bool
+        ensures { result ≡ holds self b };
+}
+
+#[derive(Clone, Copy)]
+pub struct Space;
+
+impl Class for Space {
+    ghost holds = { λ k b. is_space b };
+
+    fn has(self, b: u8) -> bool {
+        b == b' '
+    }
 }
 
 // RFC 8941's OWS: space and tab.
-pub fn is_blank(b: u8) -> bool
-    ensures { result ≡ is_blank b }
-{
-    (b == b' ') | (b == b'\t')
+#[derive(Clone, Copy)]
+pub struct Blank;
+
+impl Class for Blank {
+    ghost holds = { λ k b. is_blank b };
+
+    fn has(self, b: u8) -> bool {
+        (b == b' ') | (b == b'\t')
+    }
 }
 
+// The five bytes that part the words of an attribute: tab, line feed, form feed, return, space.
+#[derive(Clone, Copy)]
+pub struct White;
+
+impl Class for White {
+    ghost holds = { λ k b. is_white b };
+
+    fn has(self, b: u8) -> bool {
+        (b == 9) | (b == 10) | (b == 12) | (b == 13) | (b == 32)
+    }
+}
+
+#[derive(Clone, Copy)]
+pub struct Digit;
+
+impl Class for Digit {
+    ghost holds = { λ k b. is_digit b };
+
+    fn has(self, b: u8) -> bool {
+        is_digit(b)
+    }
+}
+
+#[derive(Clone, Copy)]
+pub struct Key;
+
+impl Class for Key {
+    ghost holds = { λ k b. is_key_byte b };
+
+    fn has(self, b: u8) -> bool {
+        (b >= b'a') & (b <= b'z')
+            | (b >= b'0') & (b <= b'9')
+            | (b == b'_')
+            | (b == b'-')
+            | (b == b'.')
+            | (b == b'*')
+    }
+}
+
+#[derive(Clone, Copy)]
+pub struct Token;
+
+impl Class for Token {
+    ghost holds = { λ k b. is_token_byte b };
+
+    fn has(self, b: u8) -> bool {
+        (b >= b'A') & (b <= b'Z')
+            | (b >= b'a') & (b <= b'z')
+            | (b >= b'0') & (b <= b'9')
+            | (b == b'!')
+            | (b >= b'#') & (b <= b'\'')
+            | (b == b'*')
+            | (b == b'+')
+            | (b >= b'-') & (b <= b'/')
+            | (b == b':')
+            | (b >= b'^') & (b <= b'`')
+            | (b == b'|')
+            | (b == b'~')
+    }
+}
+
+#[derive(Clone, Copy)]
+pub struct Base64;
+
+impl Class for Base64 {
+    ghost holds = { λ k b. is_base64 b };
+
+    fn has(self, b: u8) -> bool {
+        (b >= b'A') & (b <= b'Z')
+            | (b >= b'a') & (b <= b'z')
+            | (b >= b'0') & (b <= b'9')
+            | (b == b'+')
+            | (b == b'/')
+            | (b == b'=')
+    }
+}
+
+// Any byte that is not of a class.
+#[derive(Clone, Copy)]
+pub struct Outside<K>(pub K);
+
+impl<K: Class> Class for Outside<K> {
+    ghost holds = { λ k b. not (K.holds k.0 b) };
+
+    fn has(self, b: u8) -> bool {
+        !self.0.has(b)
+    }
+}
+
+// One byte alone.
+#[derive(Clone, Copy)]
+pub struct Only(pub u8);
+
+impl Class for Only {
+    ghost holds = { λ k b. eqb b k.0 };
+
+    fn has(self, b: u8) -> bool {
+        b == self.0
+    }
+}
+
+// RFC 5234: DIGIT.
 pub fn is_digit(b: u8) -> bool
     ensures { result ≡ is_digit b }
 {
-    (b >= b'0') & (b <= b'9')
+    b.is_ascii_digit()
 }
 
-pub fn is_upper(b: u8) -> bool
-    ensures { result ≡ is_upper b }
-{
-    (b >= b'A') & (b <= b'Z')
-}
-
+// The start of a key.
 pub fn is_key_start(b: u8) -> bool
     ensures { result ≡ is_key_start b }
 {
     (b >= b'a') & (b <= b'z') | (b == b'*')
 }
 
-pub fn is_key_byte(b: u8) -> bool
-    ensures { result ≡ is_key_byte b }
-{
-    (b >= b'a') & (b <= b'z')
-        | (b >= b'0') & (b <= b'9')
-        | (b == b'_')
-        | (b == b'-')
-        | (b == b'.')
-        | (b == b'*')
-}
-
+// The start of a token.
 pub fn is_token_start(b: u8) -> bool
     ensures { result ≡ is_token_start b }
 {
     (b >= b'A') & (b <= b'Z') | (b >= b'a') & (b <= b'z') | (b == b'*')
 }
 
-pub fn is_token_byte(b: u8) -> bool
-    ensures { result ≡ is_token_byte b }
-{
-    (b >= b'A') & (b <= b'Z')
-        | (b >= b'a') & (b <= b'z')
-        | (b >= b'0') & (b <= b'9')
-        | (b == b'!')
-        | (b >= b'#') & (b <= b'\'')
-        | (b == b'*')
-        | (b == b'+')
-        | (b >= b'-') & (b <= b'/')
-        | (b == b':')
-        | (b >= b'^') & (b <= b'`')
-        | (b == b'|')
-        | (b == b'~')
-}
-
-pub fn is_base64(b: u8) -> bool
-    ensures { result ≡ is_base64 b }
-{
-    (b >= b'A') & (b <= b'Z')
-        | (b >= b'a') & (b <= b'z')
-        | (b >= b'0') & (b <= b'9')
-        | (b == b'+')
-        | (b == b'/')
-        | (b == b'=')
-}
-
+// A character of a string.
 pub fn is_text(b: u8) -> bool
     ensures { result ≡ is_text b }
 {
@@ -96,56 +175,40 @@ pub fn is_label_byte(b: u8) -> bool
     (b >= b'a') & (b <= b'z') | (b >= b'0') & (b <= b'9') | (b == b'-')
 }
 
-// Tab, line feed, form feed, return, space.
-pub fn is_white(b: u8) -> bool
-    ensures { result ≡ is_white b }
+// The value of a digit; of a byte before `0`, 0.
+pub fn digit_value(b: u8) -> u32
+    ensures { result ≡ b - 48 }
 {
-    (b == 9) | (b == 10) | (b == 12) | (b == 13) | (b == 32)
+    u32::from(b.saturating_sub(b'0'))
+}
+
+// The number that one digit or more say in decimal, worth at most so much.
+pub fn decimal(digits: &[u8], most: u32) -> Option<u32>
+    ensures { result ≡ decimal_upto most digits.now }
+{
+    if digits.is_empty() {
+        return None;
+    }
+    let mut n: u32 = 0;
+    for b in digits {
+        if !is_digit(*b) {
+            return None;
+        }
+        let tens = u64::from(n) * 10;
+        let longer = tens + u64::from(digit_value(*b));
+        if u64::from(most) < longer {
+            return None;
+        }
+        n = longer as u32;
+    }
+    Some(n)
 }
 
 // ASCII lower case.
 pub fn lower(b: u8) -> u8
     ensures { result ≡ lower b }
 {
-    if is_upper(b) { b + 32 } else { b }
-}
-
-// The classes that a run of bytes can be of.
-#[derive(Clone, Copy)]
-pub enum Class {
-    // the space
-    Space,
-    // space and tab
-    Blank,
-    // the five bytes that part the words of an attribute
-    White,
-    // any byte that is not white
-    Word,
-    Digit,
-    Key,
-    Token,
-    Base64,
-    // any byte but this one
-    Not(u8),
-    // any byte but these two
-    Neither(u8, u8),
-}
-
-pub fn in_class(k: Class, b: u8) -> bool
-    ensures { result ≡ in_class k b }
-{
-    match k {
-        Class::Space => is_space(b),
-        Class::Blank => is_blank(b),
-        Class::White => is_white(b),
-        Class::Word => !is_white(b),
-        Class::Digit => is_digit(b),
-        Class::Key => is_key_byte(b),
-        Class::Token => is_token_byte(b),
-        Class::Base64 => is_base64(b),
-        Class::Not(x) => b != x,
-        Class::Neither(x, y) => (b != x) & (b != y),
-    }
+    b.to_ascii_lowercase()
 }
 
 // Whether four bytes from a place on are the same; the compiler makes one comparison of it.
@@ -171,7 +234,7 @@ fn same_from(a: &[u8], b: &[u8], at: usize) -> bool
     true
 }
 
-// Whether two texts are the same bytes: by their lengths first, and then four bytes at a time.
+// Whether two texts are the same bytes: by their lengths first, and then four bytes at a time. With `==`, which is a call, and byte by byte a question to a list took a third more.
 pub fn same(a: &[u8], b: &[u8]) -> bool
     ensures { result ≡ same_bytes a.now b.now }
 {
@@ -189,141 +252,101 @@ pub fn same(a: &[u8], b: &[u8]) -> bool
     same_from(a, b, i)
 }
 
+// Whether the bytes of two texts, place by place, are the same, the letters of the first in lower case.
+fn pairs_same(a: &[u8], b: &[u8]) -> bool
+    ensures { result ≡ list_all (λ p. lower p.0 == p.1) (zip a.now b.now) }
+{
+    a.iter().zip(b).all(|(x, y)| lower(*x) == *y)
+}
+
 // Whether `a`, its letters in lower case, is `b`.
 pub fn same_lowered(a: &[u8], b: &[u8]) -> bool
     ensures { result ≡ same_lowered a.now b.now }
 {
-    let mut i: usize = 0;
-    while i < a.len() {
-        if b.len() <= i {
-            return false;
-        }
-        let x = lower(a[i]);
-        if x != b[i] {
-            return false;
-        }
-        i += 1;
-    }
-    if i < b.len() { false } else { true }
-}
-
-// Where a part of a text stands.
-#[derive(Clone, Copy)]
-pub struct TextRange {
-    pub from: usize,
-    pub to: usize,
+    a.len() == b.len() && pairs_same(a, b)
 }
 
 // The part of a text from a place up to another; empty where that is no part of it.
 pub fn part(s: &[u8], from: usize, to: usize) -> &[u8]
     ensures { result.now ≡ part_of s.now from to }
 {
-    if to < from {
-        return &s[0..0];
+    s.get(from..to).unwrap_or(&[])
+}
+
+// Where a part of a text stands.
+#[derive(Clone, Copy, PartialEq, Eq)]
+pub struct TextRange {
+    pub from: usize,
+    pub to: usize,
+}
+
+impl TextRange {
+    // The part of a text that the range says.
+    pub fn of(self, s: &[u8]) -> &[u8]
+        ensures { result.now ≡ part_in s.now self }
+    {
+        part(s, self.from, self.to)
     }
-    if s.len() < to {
-        return &s[0..0];
-    }
-    &s[from..to]
 }
 
 // A place of a text: one past the end is the end.
 pub fn place(s: &[u8], at: usize) -> usize
     ensures { result ≡ min at (length s.now) }
 {
-    if s.len() < at { s.len() } else { at }
+    at.min(s.len())
 }
 
 // The byte at a place, 0 past the end.
 pub fn byte(s: &[u8], at: usize) -> u8
     ensures { IsByte s.now at result }
 {
-    if at < s.len() { s[at] } else { 0 }
+    s.get(at).copied().unwrap_or(0)
+}
+
+// How many bytes at the front of a text are of a class.
+fn run_length<K: Class>(s: &[u8], class: K) -> usize
+    ensures { result ≡ length (take_while (K.holds class) s.now) }
+{
+    s.iter().take_while(|b| class.has(**b)).count()
 }
 
 // Where the run of bytes of a class that starts at a place ends.
-pub fn run_end(s: &[u8], at: usize, k: Class) -> usize
-    ensures { IsRun k s.now at result }
+pub fn run_end<K: Class>(s: &[u8], at: usize, class: K) -> usize
+    ensures { IsRun (K.holds class) s.now at result }
 {
-    let mut i = place(s, at);
-    while i < s.len() {
-        if in_class(k, s[i]) {
-            i += 1;
-        } else {
-            return i;
-        }
-    }
-    i
+    let from = place(s, at);
+    from + run_length(&s[from..], class)
 }
 
-// The same of four classes, without the choice of a class: readers of headers ask for them at each member and item.
-pub fn space_end(s: &[u8], at: usize) -> usize
-    ensures { IsRun Space s.now at result }
-{
-    let mut i = place(s, at);
-    while i < s.len() {
-        if is_space(s[i]) {
-            i += 1;
-        } else {
-            return i;
-        }
-    }
-    i
-}
-
-pub fn blank_end(s: &[u8], at: usize) -> usize
-    ensures { IsRun Blank s.now at result }
-{
-    let mut i = place(s, at);
-    while i < s.len() {
-        if is_blank(s[i]) {
-            i += 1;
-        } else {
-            return i;
-        }
-    }
-    i
-}
-
-pub fn key_end(s: &[u8], at: usize) -> usize
-    ensures { IsRun Key s.now at result }
-{
-    let mut i = place(s, at);
-    while i < s.len() {
-        if is_key_byte(s[i]) {
-            i += 1;
-        } else {
-            return i;
-        }
-    }
-    i
-}
-
-pub fn token_end(s: &[u8], at: usize) -> usize
-    ensures { IsRun Token s.now at result }
-{
-    let mut i = place(s, at);
-    while i < s.len() {
-        if is_token_byte(s[i]) {
-            i += 1;
-        } else {
-            return i;
-        }
-    }
-    i
-}
-
-// A reading of a part of a text: the place past it, or the text is malformed.
-#[derive(Clone, Copy)]
-pub enum Read {
-    At(usize),
-    Malformed,
-}
-
-// One turn of a repeated part: another follows, it was the last, or the text is malformed.
+// One turn of a repeated part: another follows, or it was the last.
 #[derive(Clone, Copy)]
 pub enum Turn {
     More(usize),
     Done(usize),
-    Malformed,
+}
+
+// A part of a text that is repeated, by how one turn of it is read.
+pub trait Repeated {
+    // what a turn reads
+    ghost Value: { Type 0 };
+
+    ghost turn_of: { List ℕ → Step Value };
+
+    // One turn at a place; `None` where the text is malformed there.
+    fn turn(s: &[u8], at: usize) -> Option<Turn>
+        requires { at ≤ length s.now }
+        ensures { IsTurn s.now at result (turn_of (drop at s.now)) };
+}
+
+// Where a repeated part that starts at a place ends. A place past the end is the end.
+pub fn turns<P: Repeated>(s: &[u8], at: usize) -> Option<usize>
+    ensures { IsFrom s.now at result (turns_of P.turn_of (drop at s.now)) }
+{
+    let mut i = place(s, at);
+    loop {
+        match P::turn(s, i)? {
+            Turn::More(q) => i = q,
+            Turn::Done(q) => return Some(q),
+        }
+    }
 }

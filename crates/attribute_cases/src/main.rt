@@ -6,13 +6,9 @@
 // origin, feature). `sandbox` and `allowfullscreen` say that the attribute stands, `sandboxed` that the container is sandboxed.
 #![tactic(auto)]
 
-use allowlists::Admission;
-use ascii::Class;
 use containers::{ContainerPolicy, DeclaredOrigin};
 use decisions::{Decision, Framed};
-use features::Lookup;
 use origins::{OriginRange, OriginText};
-use settling::Settled;
 use std::io;
 
 // So much of the input is read.
@@ -35,46 +31,34 @@ fn put_number(rt: &impl Print, n: u32) -> io::Result<()> {
     put(rt, b"\n")
 }
 
-// The field of a number.
+// The field of a number; a line has as many as it has, and empty ones after them.
 fn field(line: &[u8], k: usize) -> &[u8] {
-    let mut at: usize = 0;
-    let mut i: usize = 0;
-    while i < k {
-        let to = ascii::run_end(line, at, Class::Not(b'|'));
-        at = ascii::place(line, to + 1);
-        i += 1;
-    }
-    let to = ascii::run_end(line, at, Class::Not(b'|'));
-    ascii::part(line, at, to)
+    line.split(|b| *b == b'|').nth(k).unwrap_or(&[])
 }
 
 // The origin that a text names; `null` is that of a document, opaque and named by a number.
 fn origin(t: &[u8]) -> OriginRange {
     match origins::origin_text(t) {
-        OriginText::Empty => OriginRange::Fresh,
-        OriginText::Null => OriginRange::Opaque(2),
-        OriginText::Tuple(r) => OriginRange::Tuple(r),
-        OriginText::NotAnOrigin => OriginRange::Fresh,
+        Some(OriginText::Empty) => OriginRange::Fresh,
+        Some(OriginText::Null) => OriginRange::Opaque(2),
+        Some(OriginText::Tuple(r)) => OriginRange::Tuple(r),
+        None => OriginRange::Fresh,
     }
 }
 
 fn feature(word: &[u8]) -> u32 {
-    match features::feature_of(word) {
-        Lookup::Known(n) => n,
-        Lookup::Unknown => 17,
-    }
+    features::feature_of(word).unwrap_or(17)
 }
 
 // The bytes that a header is settled into, at most.
 const SETTLED_BYTES: usize = settled::HEAD + limits::TEXT_BYTES;
 
 // What a header answers for a feature and an origin; `same`: it is the document's own.
-fn admits(header: &[u8], n: u32, same: bool, t: &[u8], o: OriginRange) -> Admission {
+fn admits(header: &[u8], n: u32, same: bool, t: &[u8], o: OriginRange) -> Option<bool> {
     let mut kept = [0u8; SETTLED_BYTES];
     match settling::settle(header, &mut kept) {
-        Settled::Header(_) => settled::admits(&kept, n, same, t, o),
-        Settled::TooLong => Admission::NoList,
-        Settled::NoRoom => Admission::NoList,
+        Ok(_) => settled::admits(&kept, n, same, t, o),
+        Err(_) => None,
     }
 }
 
@@ -87,16 +71,11 @@ struct Arrival {
 }
 
 // What a frame's attributes give a feature.
-fn container_policy(marks: &[u8], allow: &[u8], sandbox: &[u8], n: u32) -> ContainerPolicy {
+fn container_policy(marks: &[u8], allow: &[u8], sandbox: &[u8], n: u32) -> Option<ContainerPolicy> {
     let full = pieces::has_keyword(marks, b"allowfullscreen");
     let stands = pieces::has_keyword(marks, b"sandbox");
     let policies = containers::container_policies(allow, full, stands, sandbox);
-    let i = n as usize;
-    if i < features::COUNT {
-        policies[i]
-    } else {
-        ContainerPolicy::None
-    }
+    *policies.get(n as usize)?
 }
 
 // What a document at an origin inherits for a feature from the container.
@@ -128,7 +107,7 @@ fn inherits(
 }
 
 // The declared origin of a frame.
-fn declared(marks: &[u8], sandbox: &[u8], src: &[u8]) -> DeclaredOrigin {
+fn declared(marks: &[u8], sandbox: &[u8], src: &[u8]) -> Option<DeclaredOrigin> {
     let above = pieces::has_keyword(marks, b"sandboxed");
     let stands = pieces::has_keyword(marks, b"sandbox");
     let sandboxed = containers::is_sandboxed(above, stands, sandbox);
@@ -150,10 +129,10 @@ fn arrived(rt: &impl Print, line: &[u8], t: &[u8]) -> io::Result<()> {
     let o = origin(t);
     let container_same = is_container(t, o);
     let declared_same = match declared(marks, sandbox, src) {
-        DeclaredOrigin::Fresh => false,
-        DeclaredOrigin::Container => container_same,
-        DeclaredOrigin::Src(r) => origins::same_origin(src, OriginRange::Tuple(r), t, o),
-        DeclaredOrigin::NotAnOrigin => false,
+        Some(DeclaredOrigin::Fresh) => false,
+        Some(DeclaredOrigin::Container) => container_same,
+        Some(DeclaredOrigin::Src(r)) => origins::same_origin(src, OriginRange::Tuple(r), t, o),
+        None => false,
     };
     let a = Arrival {
         origin: o,
@@ -162,14 +141,14 @@ fn arrived(rt: &impl Print, line: &[u8], t: &[u8]) -> io::Result<()> {
     };
     let inherited = inherits(field(line, 1), marks, field(line, 2), sandbox, n, t, a);
     let default = features::default_of(n);
-    let decision = decisions::question(inherited, Admission::NoList, default, true);
+    let decision = decisions::question(inherited, None, default, true);
     put_decision(rt, decision)
 }
 
 // An empty text is the container's origin.
 fn arriving(rt: &impl Print, line: &[u8]) -> io::Result<()> {
     let t = field(line, 5);
-    if t.len() == 0 {
+    if t.is_empty() {
         return arrived(rt, line, b"https://a.example");
     }
     arrived(rt, line, t)
@@ -192,12 +171,12 @@ fn grandchild(header: &[u8], below: &[u8], n: u32) -> Decision {
         declared_same: true,
     };
     let above = inherits(header, b"", b"", b"", n, b"https://b.example", a);
-    let value = decisions::value(above, Admission::NoList);
+    let value = decisions::value(above, None);
     let default = features::default_of(n);
     let inherited = decisions::inherited(Framed {
         value_own: value,
         value_arriving: value,
-        allowed: Admission::NoList,
+        allowed: None,
         default,
         same: true,
     });
@@ -214,13 +193,7 @@ fn inherited_mask(
     t: &[u8],
     a: Arrival,
 ) -> u32 {
-    let mut all = [Decision::Disabled; features::COUNT];
-    let mut i: usize = 0;
-    while i < features::COUNT {
-        all[i] = inherits(header, marks, allow, sandbox, i as u32, t, a);
-        i += 1;
-    }
-    decisions::mask(all)
+    decisions::mask(|n| inherits(header, marks, allow, sandbox, n, t, a))
 }
 
 // A frame's forecast.
@@ -231,7 +204,7 @@ fn forecast(rt: &impl Print, line: &[u8]) -> io::Result<()> {
     let marks = field(line, 0);
     let sandbox = field(line, 3);
     match declared(marks, sandbox, src) {
-        DeclaredOrigin::Fresh => {
+        Some(DeclaredOrigin::Fresh) => {
             let a = Arrival {
                 origin: OriginRange::Fresh,
                 container_same: false,
@@ -239,7 +212,7 @@ fn forecast(rt: &impl Print, line: &[u8]) -> io::Result<()> {
             };
             put_number(rt, inherited_mask(header, marks, allow, sandbox, b"", a))
         }
-        DeclaredOrigin::Container => {
+        Some(DeclaredOrigin::Container) => {
             let o = origin(b"https://a.example");
             let a = Arrival {
                 origin: o,
@@ -249,7 +222,7 @@ fn forecast(rt: &impl Print, line: &[u8]) -> io::Result<()> {
             let mask = inherited_mask(header, marks, allow, sandbox, b"https://a.example", a);
             put_number(rt, mask)
         }
-        DeclaredOrigin::Src(r) => {
+        Some(DeclaredOrigin::Src(r)) => {
             let o = OriginRange::Tuple(r);
             let container_same = is_container(src, o);
             let a = Arrival {
@@ -259,19 +232,13 @@ fn forecast(rt: &impl Print, line: &[u8]) -> io::Result<()> {
             };
             put_number(rt, inherited_mask(header, marks, allow, sandbox, src, a))
         }
-        DeclaredOrigin::NotAnOrigin => put(rt, b": no origin\n"),
+        None => put(rt, b": no origin\n"),
     }
 }
 
 // The number of the container's enabled features.
 fn enabled_mask(header: &[u8]) -> u32 {
-    let mut all = [Decision::Disabled; features::COUNT];
-    let mut i: usize = 0;
-    while i < features::COUNT {
-        all[i] = asked(header, i as u32);
-        i += 1;
-    }
-    decisions::mask(all)
+    decisions::mask(|n| asked(header, n))
 }
 
 fn case(rt: &impl Print, line: &[u8]) -> io::Result<()> {
@@ -295,11 +262,8 @@ fn case(rt: &impl Print, line: &[u8]) -> io::Result<()> {
 
 // Each line of a list is a case, and ends in a line feed.
 fn cases(rt: &impl Print, list: &[u8]) -> io::Result<()> {
-    let mut i: usize = 0;
-    while i < list.len() {
-        let to = ascii::run_end(list, i, Class::Not(b'\n'));
-        case(rt, ascii::part(list, i, to))?;
-        i = to + 1;
+    for line in list.split_inclusive(|b| *b == b'\n') {
+        case(rt, line.strip_suffix(b"\n").unwrap_or(line))?;
     }
     Ok(())
 }

@@ -3,7 +3,7 @@ use mathlib.Core.Path.{◌≡◌, refl, ap, sym, ◌∙◌}
 use Prim.Native.Nat.{ℕ, ◌+◌}
 use native.Mathlib.Omega.{arith}
 use mathlib.Core.List.{List, [], ◌∷◌, ◌++◌}
-use mathlib.Core.Option.{some, none}
+use Rattle.std.specs.Prelude.{Some, None}
 use lib.ListN.{length, drop, length-append}
 use Rattle.ascii.specs.Bytes.{lower}
 use Rattle.ascii.specs.Literals.{text}
@@ -45,8 +45,8 @@ replaced : OneKeywordMore (text "x") (text "allow-scripts") → ⊥
 replaced o = let n : length (words (text "allow-scripts")) ≡ 1 = unfold computing in refl in let m : length (words (text "x")) ≡ 1 = unfold computing in refl in omega (arith, one-longer _ _ o)
 
 -- the word that is added to an empty attribute must be a keyword
-alone : (t w k : List ℕ) → words t ≡ w ∷ [] → lowered w ≡ k → ((n : ℕ) → keyword_of n ≡ some k → ⊥) → OneKeywordMore [] t → ⊥
-alone t w k e l h o = h o.feature (o.is_keyword ∙ ap some (sym (same-is lower o.word o.keyword o.any_case) ∙ ap lowered (go o.front o.back (empty ∙ o.first) (sym e ∙ o.second)) ∙ l))
+alone : (t w k : List ℕ) → words t ≡ w ∷ [] → lowered w ≡ k → ((n : ℕ) → keyword_of n ≡ Some k → ⊥) → OneKeywordMore [] t → ⊥
+alone t w k e l h o = h o.feature (o.is_keyword ∙ ap Some (sym (same-is lower o.word o.keyword o.any_case) ∙ ap lowered (go o.front o.back (empty ∙ o.first) (sym e ∙ o.second)) ∙ l))
   where
     empty : [] ≡ words []
     empty = unfold computing in refl
@@ -57,8 +57,8 @@ alone t w k e l h o = h o.feature (o.is_keyword ∙ ap some (sym (same-is lower 
     go (x ∷ front) back f g = clash cc
 
 -- a word that would be the keyword of a feature that has none
-no-keyword : (m : ℕ) (k : List ℕ) → feature_of (drop 6 k) ≡ some m → keyword_of m ≡ none → (n : ℕ) → keyword_of n ≡ some k → ⊥
-no-keyword m k f z n e = let g : feature_of (drop 6 k) ≡ some n = keyword-found n k e in let q : m ≡ n = cc in let y : keyword_of m ≡ some k = rw q e in clash cc
+no-keyword : (m : ℕ) (k : List ℕ) → feature_of (drop 6 k) ≡ Some m → keyword_of m ≡ None → (n : ℕ) → keyword_of n ≡ Some k → ⊥
+no-keyword m k f z n e = let g : feature_of (drop 6 k) ≡ Some n = keyword-found n k e in let q : m ≡ n = cc in let y : keyword_of m ≡ Some k = rw q e in clash cc
 
 same-origin : OneKeywordMore [] (text "allow-same-origin") → ⊥
 same-origin = alone (text "allow-same-origin") (text "allow-same-origin") (text "allow-same-origin") (unfold computing in refl) (unfold computing in refl) same-origin-keyword

@@ -1,6 +1,7 @@
 -- What the code's answers mean beside the texts that they are about.
+use Rattle.ascii.specs.declared.TextRange.{TextRange}
 use Rattle.std.specs.Prelude.{◌≡◌, ℕ, ◌<◌, ◌≤◌, List, ◌++◌, Bool, ◌&&◌, ◌||◌, length, take, get_or, eqb}
-use Rattle.std.proofs.Math.Option.{Option, some, none}
+use Rattle.std.specs.Prelude.{Option, Some, None}
 use Rattle.ascii.specs.Bytes.{pick}
 use Rattle.ascii.specs.Literals.{text}
 use Rattle.features.specs.Features.{feature_count, name_of}
@@ -14,8 +15,6 @@ use Rattle.allowlists.specs.Allowlists.Allowlist.{all}
 use Rattle.allowlists.specs.Allowlists.Meaning.{src}
 use Rattle.pieces.specs.Words.{entry_list}
 use Rattle.pieces.specs.Answers.{words_in, entry_at}
-use Rattle.pieces.specs.declared.EntryFound.{EntryFound}
-use Rattle.pieces.specs.declared.EntryFound.TheVariants as entry
 use Rattle.containers.specs.Attributes.{Attributes}
 use Rattle.containers.specs.Policies.{is_semicolon, fullscreen, sandbox_closes, closes_plugins, attribute_policy}
 use Rattle.containers.specs.Sandboxes.{sandbox_words, without_same_origin, is_sandboxed, declared_origin}
@@ -26,26 +25,26 @@ use Rattle.containers.specs.declared.DeclaredOrigin.{DeclaredOrigin}
 use Rattle.containers.specs.declared.DeclaredOrigin.TheVariants as declared
 
 -- the list that an answer says beside the allow attribute, or none
-abbrev pub policy_in : List ℕ → ContainerPolicy → Option Allowlist
-policy_in s policy.None = none
-policy_in s policy.All = some all
-policy_in s policy.Empty = some empty_list
-policy_in s (policy.Words r) = some (entry_list src (words_in s r))
+abbrev pub policy_in : List ℕ → Option ContainerPolicy → Option Allowlist
+policy_in s None = None
+policy_in s (Some policy.All) = Some all
+policy_in s (Some policy.Empty) = Some empty_list
+policy_in s (Some (policy.Words r)) = Some (entry_list src (words_in s r))
 
 -- the answer for a feature that allow doesn't name, told whether the sandbox attribute closes it and whether it gets `*` by allowfullscreen
-unfoldable pub unnamed_as : Bool → Bool → ContainerPolicy
-unnamed_as closes star = pick closes policy.Empty (pick star policy.All policy.None)
+unfoldable pub unnamed_as : Bool → Bool → Option ContainerPolicy
+unnamed_as closes star = pick closes (Some policy.Empty) (pick star (Some policy.All) None)
 
 -- the answer for a feature's entry, told what it gets without one
-abbrev pub policy_as : ContainerPolicy → EntryFound → ContainerPolicy
-policy_as unnamed (entry.Words r) = policy.Words r
-policy_as unnamed entry.None = unnamed
+abbrev pub policy_as : Option ContainerPolicy → Option TextRange → Option ContainerPolicy
+policy_as unnamed (Some r) = Some (policy.Words r)
+policy_as unnamed None = unnamed
 
 -- the answer for a feature, by its entry
-unfoldable pub feature_as : Bool → Option (List (List ℕ)) → ℕ → EntryFound → ContainerPolicy
-feature_as mark sandbox n e = pick (closes_plugins sandbox n) policy.Empty (policy_as (unnamed_as (sandbox_closes sandbox n) (mark && eqb n fullscreen)) e)
+unfoldable pub feature_as : Bool → Option (List (List ℕ)) → ℕ → Option TextRange → Option ContainerPolicy
+feature_as mark sandbox n e = pick (closes_plugins sandbox n) (Some policy.Empty) (policy_as (unnamed_as (sandbox_closes sandbox n) (mark && eqb n fullscreen)) e)
 
-unfoldable pub policy_at : List ℕ → Bool → Option (List (List ℕ)) → ℕ → ContainerPolicy
+unfoldable pub policy_at : List ℕ → Bool → Option (List (List ℕ)) → ℕ → Option ContainerPolicy
 policy_at s mark sandbox n = feature_as mark sandbox n (entry_at is_semicolon s n)
 
 -- `allow-` and the name of a feature, as the code holds it
@@ -54,9 +53,9 @@ pub record IsAllowName (n : ℕ) (r : AllowName) : Type 0 where
   pub within : r.len ≤ length r.bytes
 
 -- what `container_policies` promises of each feature: the list that the attributes give it, and where its words stand
-pub record IsPolicies (s : List ℕ) (mark : Bool) (sandbox : Option (List (List ℕ))) (r : List ContainerPolicy) : Type 0 where
-  pub says : (n : ℕ) → n < feature_count → policy_in s (get_or r n policy.None) ≡ attribute_policy s mark sandbox n
-  pub range : (n : ℕ) → n < feature_count → get_or r n policy.None ≡ policy_at s mark sandbox n
+pub record IsPolicies (s : List ℕ) (mark : Bool) (sandbox : Option (List (List ℕ))) (r : List (Option ContainerPolicy)) : Type 0 where
+  pub says : (n : ℕ) → n < feature_count → policy_in s (get_or r n None) ≡ attribute_policy s mark sandbox n
+  pub range : (n : ℕ) → n < feature_count → get_or r n None ≡ policy_at s mark sandbox n
 
 -- what `is_sandboxed` promises: whether the document of every frame with that sandbox attribute is sandboxed
 pub record IsSandboxed (above stands : Bool) (s : List ℕ) (r : Bool) : Type 0 where
@@ -64,20 +63,20 @@ pub record IsSandboxed (above stands : Bool) (s : List ℕ) (r : Bool) : Type 0 
   pub says : (a : Attributes) → a.has_sandbox ≡ stands → a.sandbox ≡ s → r ≡ is_sandboxed above a
 
 -- the origin that an answer names beside the text of src and the container's origin; none where src is no origin text
-abbrev pub declared_in : List ℕ → Origin → DeclaredOrigin → Option Origin
-declared_in s container declared.Fresh = some fresh
-declared_in s container declared.Container = some container
-declared_in s container (declared.Src r) = some (tuple (tuple_in s r))
-declared_in s container declared.NotAnOrigin = none
+abbrev pub declared_in : List ℕ → Origin → Option DeclaredOrigin → Option Origin
+declared_in s container (Some declared.Fresh) = Some fresh
+declared_in s container (Some declared.Container) = Some container
+declared_in s container (Some (declared.Src r)) = Some (tuple (tuple_in s r))
+declared_in s container None = None
 
 -- the answer by what src says
-unfoldable pub declared_as : Bool → OriginText → DeclaredOrigin
-declared_as sandboxed text.Empty = pick sandboxed declared.Fresh declared.Container
-declared_as sandboxed text.Null = declared.Fresh
-declared_as sandboxed (text.Tuple r) = pick sandboxed declared.Fresh (declared.Src r)
-declared_as sandboxed text.NotAnOrigin = declared.NotAnOrigin
+unfoldable pub declared_as : Bool → Option OriginText → Option DeclaredOrigin
+declared_as sandboxed (Some text.Empty) = pick sandboxed (Some declared.Fresh) (Some declared.Container)
+declared_as sandboxed (Some text.Null) = Some declared.Fresh
+declared_as sandboxed (Some (text.Tuple r)) = pick sandboxed (Some declared.Fresh) (Some (declared.Src r))
+declared_as sandboxed None = None
 
 -- what `declared_origin` promises, told what was read of src and whether the frame's document is sandboxed: the declared origin of every frame of which that is so
-pub record IsDeclared (sandboxed : Bool) (src : OriginText) (r : DeclaredOrigin) : Type 0 where
+pub record IsDeclared (sandboxed : Bool) (src : Option OriginText) (r : Option DeclaredOrigin) : Type 0 where
   pub says : (a : Attributes) (above : Bool) (container : Origin) → sandboxed ≡ is_sandboxed above a → src ≡ origin_as (origin_of a.src) → declared_in a.src container r ≡ declared_origin above a container
   pub range : r ≡ declared_as sandboxed src

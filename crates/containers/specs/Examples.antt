@@ -1,7 +1,7 @@
 -- Document 01's and 02's rows about a frame's attributes, and the slips, by computation.
 use Rattle.std.specs.Prelude.{ℕ, ◌≡◌, refl, List, [], ◌∷◌, map, Bool, true, false}
 use Prim.Native.String.{String}
-use Rattle.std.proofs.Math.Option.{Option, some, none}
+use Rattle.std.specs.Prelude.{Option, Some, None}
 use Rattle.ascii.specs.Literals.{text}
 use Rattle.ascii.specs.Texts.{every}
 use Rattle.origins.specs.Origins.{Origin}
@@ -78,8 +78,8 @@ rows_right = refl
 
 -- the nine keywords, by feature
 keywords_right : map keyword_of (0 ∷ 1 ∷ 2 ∷ 3 ∷ 4 ∷ 5 ∷ 6 ∷ 7 ∷ 8 ∷ 9 ∷ 10 ∷ 11 ∷ 12 ∷ 13 ∷ 14 ∷ 15 ∷ 16 ∷ 17 ∷ [])
-    ≡ none ∷ none ∷ some (text "allow-downloads-without-user-activation") ∷ some (text "allow-forms") ∷ none ∷ none ∷ none ∷ some (text "allow-modals") ∷ some (text "allow-orientation-lock") ∷ none ∷ none
-    ∷ some (text "allow-pointer-lock") ∷ some (text "allow-popups") ∷ some (text "allow-presentation") ∷ some (text "allow-scripts") ∷ some (text "allow-top-navigation") ∷ none ∷ none ∷ []
+    ≡ None ∷ None ∷ Some (text "allow-downloads-without-user-activation") ∷ Some (text "allow-forms") ∷ None ∷ None ∷ None ∷ Some (text "allow-modals") ∷ Some (text "allow-orientation-lock") ∷ None ∷ None
+    ∷ Some (text "allow-pointer-lock") ∷ Some (text "allow-popups") ∷ Some (text "allow-presentation") ∷ Some (text "allow-scripts") ∷ Some (text "allow-top-navigation") ∷ None ∷ None ∷ []
 unfolding computing
 keywords_right = refl
 
@@ -157,15 +157,15 @@ pub data Asked : Type 0 where
   asked : String → Bool → String → String → Bool → Asked
 
 abbrev or_fresh : Option Origin → Origin
-or_fresh (some o) = o
-or_fresh none = fresh
+or_fresh (Some o) = o
+or_fresh None = fresh
 
 abbrev origin_at : Bool → String → Origin
 origin_at sandboxed s = or_fresh (declared_origin sandboxed (sandboxing false "" s) (or_fresh (declared_origin false (sandboxing false "" "https://a.example") fresh)))
 
 abbrev some_allows : Option Allowlist → Origin → Origin → Origin → Bool
-some_allows (some l) container declared o = allows l container declared o
-some_allows none container declared o = false
+some_allows (Some l) container declared o = allows l container declared o
+some_allows None container declared o = false
 
 abbrev asked_right : Asked → Bool
 asked_right (asked allow sandboxed src arriving expected) =

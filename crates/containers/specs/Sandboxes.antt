@@ -1,6 +1,6 @@
 -- 01, "Header and attribute": sandboxed documents and the declared origin.
 use Rattle.std.specs.Prelude.{ℕ, List, Bool, false, not, ◌||◌}
-use Rattle.std.proofs.Math.Option.{Option, some, none}
+use Rattle.std.specs.Prelude.{Option, Some, None}
 use Rattle.ascii.specs.Bytes.{pick}
 use Rattle.ascii.specs.Literals.{text}
 use Rattle.origins.specs.Origins.{Origin, OriginSaid, origin_of}
@@ -11,15 +11,15 @@ use Rattle.containers.specs.Attributes.{Attributes}
 
 -- a sandbox attribute: none, or its words. "No sandbox attribute and an empty one differ."
 unfoldable pub sandbox_words : Bool → List ℕ → Option (List (List ℕ))
-sandbox_words stands s = pick stands (some (words s)) none
+sandbox_words stands s = pick stands (Some (words s)) None
 
 abbrev pub allow_same_origin : List ℕ
 allow_same_origin = text "allow-same-origin"
 
 -- "a sandbox attribute stands without `allow-same-origin`"
 unfoldable pub without_same_origin : Option (List (List ℕ)) → Bool
-without_same_origin (some ws) = not (has_keyword allow_same_origin ws)
-without_same_origin none = false
+without_same_origin (Some ws) = not (has_keyword allow_same_origin ws)
+without_same_origin None = false
 
 -- the same of a frame's attributes
 abbrev pub sandboxes : Attributes → Bool
@@ -31,14 +31,14 @@ is_sandboxed above a = above || sandboxes a
 
 -- what src says, beside the container's origin: "Empty means: the container's origin"; a fresh one "for src `null` too"; none where src is no origin text, which the calls refuse
 unfoldable pub src_origin : OriginSaid → Origin → Option Origin
-src_origin says_empty container = some container
-src_origin says_null container = some fresh
-src_origin (says_tuple o) container = some (tuple o)
-src_origin no_origin container = none
+src_origin says_empty container = Some container
+src_origin says_null container = Some fresh
+src_origin (says_tuple o) container = Some (tuple o)
+src_origin no_origin container = None
 
 unfoldable pub fresh_if : Bool → Option Origin → Option Origin
-fresh_if sandboxed (some o) = some (pick sandboxed fresh o)
-fresh_if sandboxed none = none
+fresh_if sandboxed (Some o) = Some (pick sandboxed fresh o)
+fresh_if sandboxed None = None
 
 -- "Declared origin: fresh and opaque if" the frame's document is sandboxed, "else the src origin text"; told whether the container document is sandboxed, and its origin
 unfoldable pub declared_origin : Bool → Attributes → Origin → Option Origin

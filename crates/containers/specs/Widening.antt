@@ -1,6 +1,6 @@
 -- 01, "What demand 3 speaks of": the added word, of a frame's attributes. 02, R-1: the added keyword.
 use Rattle.std.specs.Prelude.{◌≡◌, Bool, true, List, ◌∷◌, ◌++◌, ℕ}
-use Rattle.std.proofs.Math.Option.{some}
+use Rattle.std.specs.Prelude.{Some}
 use Rattle.ascii.specs.Texts.{same_lowered}
 use Rattle.pieces.specs.Pieces.{words}
 use Rattle.pieces.specs.OneWordMore.{OneWordMore}
@@ -20,7 +20,7 @@ pub record OneKeywordMore (s t : List ℕ) : Type 0 where
   -- whose keyword it is
   pub feature : ℕ
   pub keyword : List ℕ
-  pub is_keyword : keyword_of feature ≡ some keyword
+  pub is_keyword : keyword_of feature ≡ Some keyword
   pub any_case : same_lowered word keyword ≡ true
   pub first : words s ≡ front ++ back
   pub second : words t ≡ front ++ (word ∷ back)

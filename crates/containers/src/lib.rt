@@ -1,19 +1,17 @@
 // A frame's attributes: allow, allowfullscreen and sandbox; the container policy and the declared origin.
 #![tactic(auto)]
 
-ghost use Rattle.std.specs.Prelude.{◌≡◌, ◌&&◌, eqb};
+ghost use Rattle.std.specs.Prelude.{◌≡◌, ◌≤◌, ◌&&◌, eqb, length, take};
 ghost use Rattle.origins.specs.Answers.{origin_in};
 ghost use Rattle.allowlists.specs.Allowlists.{some_admits};
-ghost use Rattle.allowlists.specs.Answers.{admission_as};
 ghost use Rattle.containers.specs.Policies.{fullscreen, sandbox_closes};
 ghost use Rattle.containers.specs.Sandboxes.{sandbox_words};
 ghost use Rattle.containers.specs.Answers.{policy_in, unnamed_as, feature_as, IsAllowName, IsPolicies, IsSandboxed, IsDeclared};
 
-use allowlists::Admission;
-use ascii::{Class, TextRange};
-use features::DefaultOf;
+use ascii::{Only, TextRange};
+use features::DefaultAllowlist;
 use origins::{OriginRange, OriginText, TupleRange};
-use pieces::{Bare, EntryFound};
+use pieces::Bare;
 
 // The numbers of the features `fullscreen` and `plugins`.
 const FULLSCREEN: u32 = 4;
@@ -23,25 +21,23 @@ const PLUGINS: u32 = 10;
 // The longest keyword, in bytes: `allow-` and a name.
 const ALLOW_NAME_BYTES: usize = 6 + features::NAME_BYTES;
 
-// What a frame's attributes give a feature: no list, `*`, the empty list (of the sandbox attribute), or the list of an entry, as a range of the allow attribute.
+// The list that a frame's attributes give a feature, if any: `*`, the empty list (of the sandbox attribute), or the list of an entry, as a range of the allow attribute.
 #[derive(Clone, Copy)]
 pub enum ContainerPolicy {
-    None,
     All,
     Empty,
     Words(TextRange),
 }
 
-// The declared origin of a frame: a fresh one, the container's, or a range of src; none where src is no origin text.
+// The declared origin of a frame: a fresh one, the container's, or a range of src.
 #[derive(Clone, Copy)]
 pub enum DeclaredOrigin {
     Fresh,
     Container,
     Src(TupleRange),
-    NotAnOrigin,
 }
 
-// `allow-` and a name: the first `len` of `bytes`.
+// `allow-` and a name: the first `len` of `bytes`; there is no heap.
 #[derive(Clone, Copy)]
 struct AllowName {
     bytes: [u8; ALLOW_NAME_BYTES],
@@ -53,18 +49,25 @@ fn allow_name(n: u32) -> AllowName
     ensures { IsAllowName n result }
 {
     let name = features::name_of(n);
-    let letters = name.bytes;
-    let len = name.len;
+    let len = 6 + name.len();
     let mut bytes = *b"allow-                                 ";
-    let mut i: usize = 0;
-    while i < len {
-        bytes[6 + i] = letters[i];
-        i += 1;
-    }
-    AllowName { bytes, len: 6 + i }
+    bytes[6..len].copy_from_slice(name);
+    AllowName { bytes, len }
 }
 
+impl AllowName {
+    fn text(&self) -> &[u8]
+        requires { self.now.len ≤ length self.now.bytes }
+        ensures { result.now ≡ take self.now.len self.now.bytes }
+    {
+        &self.bytes[..self.len]
+    }
+}
+
+// A sandbox attribute stays a mark and a text, here and below: the text's length counts for refusal 4 even where the mark is clear (`specs/Attributes`), and they go on as the calls get them.
+
 // Whether a sandbox attribute closes a feature that allow doesn't name: one with default `*` whose keyword doesn't stand; plugins has none.
+#[tactic(auto, using(crate::proofs::Steps::closings))]
 fn sandbox_closes(has_sandbox: bool, sandbox: &[u8], n: u32) -> bool
     ensures { result ≡ sandbox_closes (sandbox_words has_sandbox sandbox.now) n }
 {
@@ -72,17 +75,15 @@ fn sandbox_closes(has_sandbox: bool, sandbox: &[u8], n: u32) -> bool
         return false;
     }
     match features::default_of(n) {
-        DefaultOf::All => {
+        Some(DefaultAllowlist::All) => {
             if n == PLUGINS {
                 return true;
             }
-            let k = allow_name(n);
-            let bytes = k.bytes;
-            let len = k.len;
-            !pieces::has_keyword(sandbox, &bytes[..len])
+            let keyword = allow_name(n);
+            !pieces::has_keyword(sandbox, keyword.text())
         }
-        DefaultOf::SelfOnly => false,
-        DefaultOf::NoSuchFeature => false,
+        Some(DefaultAllowlist::SelfOnly) => false,
+        None => false,
     }
 }
 
@@ -92,35 +93,35 @@ fn unnamed_policy(
     allowfullscreen: bool,
     has_sandbox: bool,
     sandbox: &[u8],
-) -> ContainerPolicy
+) -> Option<ContainerPolicy>
     ensures { result ≡ unnamed_as (sandbox_closes (sandbox_words has_sandbox sandbox.now) n) (allowfullscreen && eqb n fullscreen) }
 {
     if sandbox_closes(has_sandbox, sandbox, n) {
-        return ContainerPolicy::Empty;
+        return Some(ContainerPolicy::Empty);
     }
     if allowfullscreen & (n == FULLSCREEN) {
-        ContainerPolicy::All
+        Some(ContainerPolicy::All)
     } else {
-        ContainerPolicy::None
+        None
     }
 }
 
 // The policy of a feature by its entry; under sandbox no entry opens plugins.
 fn feature_policy(
-    e: EntryFound,
+    e: Option<TextRange>,
     n: u32,
     allowfullscreen: bool,
     has_sandbox: bool,
     sandbox: &[u8],
-) -> ContainerPolicy
+) -> Option<ContainerPolicy>
     ensures { result ≡ feature_as allowfullscreen (sandbox_words has_sandbox sandbox.now) n e }
 {
     if has_sandbox & (n == PLUGINS) {
-        return ContainerPolicy::Empty;
+        return Some(ContainerPolicy::Empty);
     }
     match e {
-        EntryFound::Words(w) => ContainerPolicy::Words(w),
-        EntryFound::None => unnamed_policy(n, allowfullscreen, has_sandbox, sandbox),
+        Some(w) => Some(ContainerPolicy::Words(w)),
+        None => unnamed_policy(n, allowfullscreen, has_sandbox, sandbox),
     }
 }
 
@@ -130,16 +131,14 @@ pub fn container_policies(
     allowfullscreen: bool,
     has_sandbox: bool,
     sandbox: &[u8],
-) -> [ContainerPolicy; features::COUNT]
+) -> [Option<ContainerPolicy>; features::COUNT]
     ensures { IsPolicies allow.now allowfullscreen (sandbox_words has_sandbox sandbox.now) result }
 {
-    let found = pieces::entries(allow, Class::Not(b';'));
-    let mut policies = [ContainerPolicy::None; features::COUNT];
-    let mut i: usize = 0;
-    while i < features::COUNT {
-        let e = found[i];
-        policies[i] = feature_policy(e, i as u32, allowfullscreen, has_sandbox, sandbox);
-        i += 1;
+    let found = pieces::entries(allow, Only(b';'));
+    let mut policies = [None; features::COUNT];
+    for i in 0..features::COUNT {
+        let entry = found[i];
+        policies[i] = feature_policy(entry, i as u32, allowfullscreen, has_sandbox, sandbox);
     }
     policies
 }
@@ -147,21 +146,20 @@ pub fn container_policies(
 // Whether a container policy admits an origin; `is_container`: it is the container's; `is_declared`: it is the declared one.
 pub fn policy_admits(
     allow: &[u8],
-    policy: ContainerPolicy,
+    policy: Option<ContainerPolicy>,
     is_container: bool,
     is_declared: bool,
     t: &[u8],
     o: OriginRange,
-) -> Admission
-    ensures { result ≡ admission_as (some_admits (policy_in allow.now policy) is_container is_declared (origin_in t.now o)) }
+) -> Option<bool>
+    ensures { result ≡ some_admits (policy_in allow.now policy) is_container is_declared (origin_in t.now o) }
 {
-    match policy {
-        ContainerPolicy::None => Admission::NoList,
-        ContainerPolicy::All => Admission::Admitted,
-        ContainerPolicy::Empty => Admission::NotAdmitted,
-        ContainerPolicy::Words(w) => allowlists::admission_of(pieces::entry_admits(
+    match policy? {
+        ContainerPolicy::All => Some(true),
+        ContainerPolicy::Empty => Some(false),
+        ContainerPolicy::Words(words) => Some(pieces::entry_admits(
             allow,
-            w,
+            words,
             Bare::SrcOrigin,
             is_container,
             is_declared,
@@ -185,24 +183,23 @@ pub fn is_sandboxed(container_sandboxed: bool, has_sandbox: bool, sandbox: &[u8]
 }
 
 // The declared origin of a frame whose document is sandboxed or not, by what src says.
-pub fn declared_origin(sandboxed: bool, src: OriginText) -> DeclaredOrigin
+pub fn declared_origin(sandboxed: bool, src: Option<OriginText>) -> Option<DeclaredOrigin>
     ensures { IsDeclared sandboxed src result }
 {
-    match src {
-        OriginText::NotAnOrigin => DeclaredOrigin::NotAnOrigin,
-        OriginText::Null => DeclaredOrigin::Fresh,
+    match src? {
+        OriginText::Null => Some(DeclaredOrigin::Fresh),
         OriginText::Empty => {
             if sandboxed {
-                DeclaredOrigin::Fresh
+                Some(DeclaredOrigin::Fresh)
             } else {
-                DeclaredOrigin::Container
+                Some(DeclaredOrigin::Container)
             }
         }
-        OriginText::Tuple(r) => {
+        OriginText::Tuple(range) => {
             if sandboxed {
-                DeclaredOrigin::Fresh // whatever src says
+                Some(DeclaredOrigin::Fresh) // whatever src says
             } else {
-                DeclaredOrigin::Src(r)
+                Some(DeclaredOrigin::Src(range))
             }
         }
     }

@@ -2,7 +2,7 @@
 use mathlib.Core.Path.{◌≡◌, refl, ◌∙◌}
 use Prim.Native.Nat.{ℕ, ◌/◌, ◌%◌, ◌^◌}
 use mathlib.Core.Bool.{Bool, true, false}
-use mathlib.Core.Option.{Option, some, none}
+use Rattle.std.specs.Prelude.{Option, Some, None}
 use lib.Dec.{eqb}
 use Rattle.ascii.proofs.Clash.{clash}
 use Rattle.features.specs.Features.{Default, default_of}
@@ -13,9 +13,6 @@ use Rattle.origins.specs.Matching.{same_origin}
 use Rattle.origins.proofs.Laws.{fresh-right}
 use Rattle.allowlists.specs.Allowlists.{Allowlist, list_admits, some_admits}
 use Rattle.allowlists.specs.Allowlists.Allowlist.{all}
-use Rattle.allowlists.specs.Answers.{admission_in}
-use Rattle.allowlists.specs.declared.Admission.{Admission}
-use Rattle.allowlists.specs.declared.Admission.TheVariants as admission
 use Rattle.allowlists.proofs.Laws.{all-admits, some-admits, none-admits}
 use Rattle.declarations.specs.Declarations.{declared_admits}
 use Rattle.declarations.proofs.Laws.{declared-some, declared-none, declared-fresh}
@@ -24,38 +21,38 @@ use Rattle.decisions.specs.Decisions.Decision.{disabled, enabled}
 use Rattle.decisions.specs.Masks.{decision_at}
 use Rattle.decisions.specs.Policies.{Policy, question, question_in}
 
-fresh-list : (l : Allowlist) (own o : Origin) (d : Decision) (b : Bool) → declared_admits (some l) own fresh ≡ some b → by_list (declared_admits (some l) own fresh) d ≡ enabled → by_list (declared_admits (some l) own o) d ≡ enabled
+fresh-list : (l : Allowlist) (own o : Origin) (d : Decision) (b : Bool) → declared_admits (Some l) own fresh ≡ Some b → by_list (declared_admits (Some l) own fresh) d ≡ enabled → by_list (declared_admits (Some l) own o) d ≡ enabled
 unfolding by_list decided
 fresh-list l own o d true e f = rw (declared-fresh l own e, declared-some all own o, all-admits (same_origin own o) false o) refl
 fresh-list l own o d false e f = let g : decided false ≡ enabled = rw e at f in clash cc
 
 fresh-default : (t : Option Default) (own o : Origin) → by_default t (same_origin own fresh) ≡ enabled → by_default t (same_origin own o) ≡ enabled
 unfolding by_default decided
-fresh-default (some star) own o e = refl
-fresh-default (some self) own o e = let g : decided false ≡ enabled = rw (fresh-right own) at e in clash cc
-fresh-default none own o e = let g : decided false ≡ enabled = rw (fresh-right own) at e in clash cc
+fresh-default (Some star) own o e = refl
+fresh-default (Some self) own o e = let g : decided false ≡ enabled = rw (fresh-right own) at e in clash cc
+fresh-default None own o e = let g : decided false ≡ enabled = rw (fresh-right own) at e in clash cc
 
 fresh-question : (i : Decision) (d : Option Allowlist) (t : Option Default) (own o : Origin) → question i d t own fresh ≡ enabled → question i d t own o ≡ enabled
 unfolding question question_by unless_disabled by_list
 fresh-question disabled d t own o e = clash cc
-fresh-question enabled (some l) t own o e =
+fresh-question enabled (Some l) t own o e =
     let b = list_admits l (same_origin own fresh) false fresh in
-    let at : by_list (declared_admits (some l) own o) (by_default t (same_origin own fresh)) ≡ enabled = fresh-list l own o (by_default t (same_origin own fresh)) b (declared-some l own fresh) e in
+    let at : by_list (declared_admits (Some l) own o) (by_default t (same_origin own fresh)) ≡ enabled = fresh-list l own o (by_default t (same_origin own fresh)) b (declared-some l own fresh) e in
     rw (declared-some l own o) (rw (declared-some l own o) at at)
-fresh-question enabled none t own o e = rw (declared-none own o) (fresh-default t own o (rw (declared-none own fresh) at e))
+fresh-question enabled None t own o e = rw (declared-none own o) (fresh-default t own o (rw (declared-none own fresh) at e))
 
 other-default : (t : Option Default) (own o : Origin) → by_default t (same_origin own fresh) ≡ disabled → same_origin own o ≡ false → by_default t (same_origin own o) ≡ disabled
 unfolding by_default decided
-other-default (some star) own o e n = clash cc
-other-default (some self) own o e n = rw n refl
-other-default none own o e n = rw n refl
+other-default (Some star) own o e n = clash cc
+other-default (Some self) own o e n = rw n refl
+other-default None own o e n = rw n refl
 
 other-question : (i : Decision) (d : Option Allowlist) (t : Option Default) (own o : Origin) → question i d t own fresh ≡ disabled → same_origin own o ≡ false
     → question i d t own o ≡ unless_disabled i (by_list (some_admits d false false o) disabled)
 unfolding question question_by unless_disabled by_list
 other-question disabled d t own o e n = refl
-other-question enabled (some l) t own o e n = rw (declared-some l own o, n, some-admits l false false o) refl
-other-question enabled none t own o e n = rw (declared-none own o, none-admits false false o) (other-default t own o (rw (declared-none own fresh) at e) n)
+other-question enabled (Some l) t own o e n = rw (declared-some l own o, n, some-admits l false false o) refl
+other-question enabled None t own o e n = rw (declared-none own o, none-admits false false o) (other-default t own o (rw (declared-none own fresh) at e) n)
 
 module _ (p : Policy) (n : ℕ) (o : Origin) where
   pub fresh-every : question_in p n fresh ≡ enabled → question_in p n o ≡ enabled
@@ -91,17 +88,3 @@ decided-off = refl
 pub decided-on : decided true ≡ enabled
 unfolding decided
 decided-on = refl
-
--- what a list answers, and Disabled without one
-module _ (a : Admission) where
-  pub admitted-none : a ≡ admission.NoList → decided false ≡ by_list (admission_in a) disabled
-  unfolding decided by_list
-  admitted-none e = rw e
-
-  pub admitted-yes : a ≡ admission.Admitted → decided true ≡ by_list (admission_in a) disabled
-  unfolding decided by_list
-  admitted-yes e = rw e
-
-  pub admitted-no : a ≡ admission.NotAdmitted → decided false ≡ by_list (admission_in a) disabled
-  unfolding decided by_list
-  admitted-no e = rw e

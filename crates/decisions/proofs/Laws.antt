@@ -1,32 +1,28 @@
 -- The laws of decisions, for the crates above, here and in Everywhere (Enabled at a fresh origin is Enabled at every one): nothing there opens a definition of this crate. Assumes nothing.
+use Rattle.features.specs.declared.DefaultAllowlist.{DefaultAllowlist}
 use mathlib.Core.Path.{◌≡◌, refl, ap, ◌∙◌, sym, subst}
 use Prim.Native.Nat.{ℕ, zero, suc, ◌+◌, ◌*◌, ◌^◌, ◌/◌, ◌%◌, ◌<◌, ◌≤◌}
-use mathlib.Core.List.{List}
 use mathlib.Core.Bool.{Bool, true, false}
-use mathlib.Core.Option.{Option, some, none}
+use Rattle.std.specs.Prelude.{Option, Some, None}
 use native.Mathlib.Nat.{add_comm, mod-one, mod-lt, mod-eq_of_lt}
 use native.Mathlib.Omega.{arith}
 use lib.Pow.{mod-pow-add}
 use lib.Dec.{ltb, eqb}
-use lib.ListN.{get_or}
 use borrow.Author.Tests.{ltb-true, ltb-false}
 use Rattle.ascii.proofs.Clash.{clash}
 use Rattle.features.specs.Features.{Default, feature_count, default_of}
 use Rattle.features.specs.Features.Default.{star, self}
 use Rattle.features.specs.Answers.{default_in}
-use Rattle.features.specs.declared.DefaultOf.{DefaultOf}
 use Rattle.origins.specs.Origins.{Origin}
 use Rattle.origins.specs.Origins.Origin.{tuple, opaque, fresh}
 use Rattle.origins.specs.Matching.{same_origin}
 use Rattle.origins.proofs.Laws.{tuple-self, opaque-self, fresh-left, fresh-right}
 use Rattle.allowlists.specs.Allowlists.{Allowlist, empty_list, list_admits, allows, some_admits}
 use Rattle.allowlists.specs.Allowlists.Allowlist.{all, listed}
-use Rattle.allowlists.specs.Answers.{admission_as, admission_in}
 use Rattle.allowlists.specs.Widening.{AsWide, AsWideOrOpened}
 use Rattle.allowlists.specs.Widening.AsWide.{neither, both}
 use Rattle.allowlists.specs.Widening.AsWideOrOpened.{as_wide, opened}
-use Rattle.allowlists.specs.declared.Admission.{Admission}
-use Rattle.allowlists.proofs.Laws.{all-admits, empty-list, some-admits, none-admits, admission-back, fresh-all, opaque-all, allows-fresh, allows-opaque, as-wide-self}
+use Rattle.allowlists.proofs.Laws.{all-admits, empty-list, some-admits, none-admits, fresh-all, opaque-all, allows-fresh, allows-opaque, as-wide-self}
 use Rattle.declarations.specs.Declarations.{declared_admits}
 use Rattle.declarations.proofs.Laws.{declared-some, declared-none, declared-told, declared-fresh, declared-opaque}
 use Rattle.decisions.specs.Decisions.{Decision, decided, unless_disabled, by_list, by_default, value_by, inherited_by, inherited_top, question_by}
@@ -34,22 +30,21 @@ use Rattle.decisions.specs.Decisions.Decision.{disabled, enabled}
 use Rattle.decisions.specs.Masks.{bit_of, mask_below, mask_of, decision_at}
 use Rattle.decisions.specs.Policies.{Policy, Frame, value, inherited_framed, question, value_in, question_in, inherited_in, enabled_mask, forecast}
 use Rattle.decisions.specs.Widening.{Stays, WiderPolicy, WiderFrame}
-use Rattle.decisions.specs.Answers.{decision_in, decisions_in}
+use Rattle.decisions.specs.Answers.{decision_in}
 use Rattle.decisions.specs.declared.Decision.{Decision as Answer}
-use Rattle.decisions.specs.declared.Decision.TheVariants as answer
 use Rattle.decisions.proofs.Masks.{mask_lt, mask-bit, bits-past}
 
 -- the answer of `value`, told what a declared list answered, is *Value*
-module _ (d : Option Allowlist) (own o : Origin) (same : Bool) (a : Admission) (i r : Answer) (is_same : same ≡ same_origin own o) (admitted : a ≡ admission_as (some_admits d same false o)) where
-  answered : admission_in a ≡ declared_admits d own o
-  answered = ap admission_in admitted ∙ admission-back (some_admits d same false o) ∙ declared-told d same own o is_same
+module _ (d : Option Allowlist) (own o : Origin) (same : Bool) (a : Option Bool) (i r : Answer) (is_same : same ≡ same_origin own o) (admitted : a ≡ some_admits d same false o) where
+  answered : a ≡ declared_admits d own o
+  answered = admitted ∙ declared-told d same own o is_same
 
-  pub value-says : decision_in r ≡ value_by (decision_in i) (admission_in a) → decision_in r ≡ value (decision_in i) d own o
+  pub value-says : decision_in r ≡ value_by (decision_in i) a → decision_in r ≡ value (decision_in i) d own o
   unfolding value
   value-says is = is ∙ ap (value_by (decision_in i)) answered
 
   -- and that of `question` is *Question*
-  pub question-says : (default : DefaultOf) → decision_in r ≡ question_by (decision_in i) (admission_in a) (default_in default) same → decision_in r ≡ question (decision_in i) d (default_in default) own o
+  pub question-says : (default : Option DefaultAllowlist) → decision_in r ≡ question_by (decision_in i) a (default_in default) same → decision_in r ≡ question (decision_in i) d (default_in default) own o
   unfolding question
   question-says default is =
       is
@@ -57,24 +52,21 @@ module _ (d : Option Allowlist) (own o : Origin) (same : Bool) (a : Admission) (
       ∙ ap (question_by (decision_in i) (declared_admits d own o) (default_in default)) is_same
 
 -- the answer of `inherited`, told what a container policy answered, is *Inherited*
-module _ (allowed : Option Allowlist) (container declared o : Origin) (is-container is_declared : Bool) (a : Admission)
+module _ (allowed : Option Allowlist) (container declared o : Origin) (is-container is_declared : Bool) (a : Option Bool)
     (told-container : is-container ≡ same_origin container o)
     (told-declared : is_declared ≡ same_origin declared o)
-    (admitted : a ≡ admission_as (some_admits allowed is-container is_declared o)) where
-  allowed-answer : admission_in a ≡ some_admits allowed is-container is_declared o
-  allowed-answer = ap admission_in admitted ∙ admission-back (some_admits allowed is-container is_declared o)
-
-  pub inherited-says : (value_own value_arriving r : Answer) (default : DefaultOf) → decision_in r ≡ inherited_by (decision_in value_own) (decision_in value_arriving) (admission_in a) (default_in default) is-container
+    (admitted : a ≡ some_admits allowed is-container is_declared o) where
+  pub inherited-says : (value_own value_arriving r : Answer) (default : Option DefaultAllowlist) → decision_in r ≡ inherited_by (decision_in value_own) (decision_in value_arriving) a (default_in default) is-container
       → decision_in r ≡ inherited_framed (decision_in value_own) (decision_in value_arriving) allowed (default_in default) container declared o
   unfolding inherited_framed
-  inherited-says value_own value_arriving r default is = rw (← told-container, ← told-declared, ← allowed-answer) is
+  inherited-says value_own value_arriving r default is = rw (← told-container, ← told-declared, ← admitted) is
 
 -- at the own origin of a document *Question* and *Value* agree
 own_default : (default : Option Default) → by_default default true ≡ enabled
 unfolding by_default decided
-own_default (some star) = refl
-own_default (some self) = refl
-own_default none = refl
+own_default (Some star) = refl
+own_default (Some self) = refl
+own_default None = refl
 
 pub own-agrees : (inherited : Decision) (declared : Option Allowlist) (default : Option Default) (own : Origin) → same_origin own own ≡ true → question inherited declared default own own ≡ value inherited declared own own
 unfolding question value question_by value_by
@@ -144,20 +136,20 @@ unfolding unless_disabled
 unless-then disabled e k = clash cc
 unless-then enabled e k = k
 
-decided-some : (x : Option Bool) (b : Bool) → x ≡ some b → by_list x enabled ≡ enabled → x ≡ some true
+decided-some : (x : Option Bool) (b : Bool) → x ≡ Some b → by_list x enabled ≡ enabled → x ≡ Some true
 unfolding by_list
-decided-some (some true) b e k = refl
-decided-some (some false) b e k = clash (unfold decided in cc)
-decided-some none b e k = clash cc
+decided-some (Some true) b e k = refl
+decided-some (Some false) b e k = clash (unfold decided in cc)
+decided-some None b e k = clash cc
 
-pub value-fresh : (i : Decision) (l : Allowlist) (own : Origin) → value i (some l) own fresh ≡ enabled → l ≡ all
+pub value-fresh : (i : Decision) (l : Allowlist) (own : Origin) → value i (Some l) own fresh ≡ enabled → l ≡ all
 unfolding value value_by
 value-fresh i l own e =
     declared-fresh l own
-    (decided-some (declared_admits (some l) own fresh) (list_admits l (same_origin own fresh) false fresh) (declared-some l own fresh) (unless-then i (by_list (declared_admits (some l) own fresh) enabled) e))
+    (decided-some (declared_admits (Some l) own fresh) (list_admits l (same_origin own fresh) false fresh) (declared-some l own fresh) (unless-then i (by_list (declared_admits (Some l) own fresh) enabled) e))
 
 -- and in the attribute, whatever the declared origin is
-pub inherited-fresh : (c d : Decision) (l : Allowlist) (default : Option Default) (container declared : Origin) → inherited_framed c d (some l) default container declared fresh ≡ enabled → l ≡ all
+pub inherited-fresh : (c d : Decision) (l : Allowlist) (default : Option Default) (container declared : Origin) → inherited_framed c d (Some l) default container declared fresh ≡ enabled → l ≡ all
 unfolding inherited_framed inherited_by
 inherited-fresh c d l default container declared e =
     let k = decided (allows l container declared fresh) in
@@ -165,13 +157,13 @@ inherited-fresh c d l default container declared e =
     (decided-yes (allows l container declared fresh) (unless-then d k (unless-then c (unless_disabled d k) (unfold by_list in (rw (some-admits l (same_origin container fresh) (same_origin declared fresh) fresh) at e)))))
 
 -- an opaque origin too, where it is not the container's: a sandboxed document arrives at one, and its frame's declared origin is fresh
-pub value-opaque : (i : Decision) (l : Allowlist) (own : Origin) (n : ℕ) → same_origin own (opaque n) ≡ false → value i (some l) own (opaque n) ≡ enabled → l ≡ all
+pub value-opaque : (i : Decision) (l : Allowlist) (own : Origin) (n : ℕ) → same_origin own (opaque n) ≡ false → value i (Some l) own (opaque n) ≡ enabled → l ≡ all
 unfolding value value_by
 value-opaque i l own n h e =
     declared-opaque l own n h
-    (decided-some (declared_admits (some l) own (opaque n)) (list_admits l (same_origin own (opaque n)) false (opaque n)) (declared-some l own (opaque n)) (unless-then i (by_list (declared_admits (some l) own (opaque n)) enabled) e))
+    (decided-some (declared_admits (Some l) own (opaque n)) (list_admits l (same_origin own (opaque n)) false (opaque n)) (declared-some l own (opaque n)) (unless-then i (by_list (declared_admits (Some l) own (opaque n)) enabled) e))
 
-pub inherited-opaque : (c d : Decision) (l : Allowlist) (default : Option Default) (container : Origin) (n : ℕ) → same_origin container (opaque n) ≡ false → inherited_framed c d (some l) default container fresh (opaque n) ≡ enabled → l ≡ all
+pub inherited-opaque : (c d : Decision) (l : Allowlist) (default : Option Default) (container : Origin) (n : ℕ) → same_origin container (opaque n) ≡ false → inherited_framed c d (Some l) default container fresh (opaque n) ≡ enabled → l ≡ all
 unfolding inherited_framed inherited_by
 inherited-opaque c d l default container n h e =
     let k = decided (allows l container fresh (opaque n)) in
@@ -189,8 +181,8 @@ list-opaque (listed a b es) k =
     not_so false f = refl
 
 some-opaque : (d : Option Allowlist) (k : ℕ) → some_admits d false false (opaque k) ≡ some_admits d false false fresh
-some-opaque (some l) k = rw (some-admits l false false (opaque k), some-admits l false false fresh, list-opaque l k)
-some-opaque none k = none-admits false false (opaque k) ∙ sym (none-admits false false fresh)
+some-opaque (Some l) k = rw (some-admits l false false (opaque k), some-admits l false false fresh, list-opaque l k)
+some-opaque None k = none-admits false false (opaque k) ∙ sym (none-admits false false fresh)
 
 value-as-fresh : (i : Decision) (d : Option Allowlist) (own : Origin) (k : ℕ) → same_origin own (opaque k) ≡ false → value i d own (opaque k) ≡ value i d own fresh
 unfolding value
@@ -206,23 +198,23 @@ unfolding inherited_in value_in
 inherited-as-fresh p f k e h n = rw (e, value-as-fresh (p.inherited n) (p.declared n) p.own k h) (framed-as-fresh _ _ (f.allowed n) (default_of n) p.own k h)
 
 -- *Value* where nothing is declared is what is inherited
-value_none : (i : Decision) (own o : Origin) → value i none own o ≡ i
+value_none : (i : Decision) (own o : Origin) → value i None own o ≡ i
 unfolding value value_by by_list unless_disabled
 value_none disabled own o = refl
 value_none enabled own o = rw (declared-none own o)
 
-pub value-undeclared : (p : Policy) (n : ℕ) (o : Origin) → p.declared n ≡ none → value_in p n o ≡ p.inherited n
+pub value-undeclared : (p : Policy) (n : ℕ) (o : Origin) → p.declared n ≡ None → value_in p n o ≡ p.inherited n
 unfolding value_in
 value-undeclared p n o e = rw e (value_none (p.inherited n) p.own o)
 
 -- without an entry only the default `*` admits an origin that is not the container's
-default-star : (default : Option Default) → by_default default false ≡ enabled → default ≡ some star
+default-star : (default : Option Default) → by_default default false ≡ enabled → default ≡ Some star
 unfolding by_default decided
-default-star (some star) e = refl
-default-star (some self) e = clash cc
-default-star none e = clash cc
+default-star (Some star) e = refl
+default-star (Some self) e = clash cc
+default-star None e = clash cc
 
-pub inherited-default : (c d : Decision) (default : Option Default) (container declared arriving : Origin) → same_origin container arriving ≡ false → inherited_framed c d none default container declared arriving ≡ enabled → default ≡ some star
+pub inherited-default : (c d : Decision) (default : Option Default) (container declared arriving : Origin) → same_origin container arriving ≡ false → inherited_framed c d None default container declared arriving ≡ enabled → default ≡ Some star
 unfolding inherited_framed inherited_by by_list
 inherited-default c d default container declared arriving h e =
     let k = by_default default false in
@@ -245,9 +237,9 @@ unless-stays {c} {d} {e} {f} h g = record { keeps = unless-keeps c d e f (λ k. 
 
 -- two answers of lists: neither has one; or both have and the second admits if the first does; or the first has one, which doesn't admit, and the second none
 data Follows : Option Bool → Option Bool → Type 0 where
-  no_lists : Follows none none
-  lists : {a b : Bool} → (a ≡ true → b ≡ true) → Follows (some a) (some b)
-  list_gone : Follows (some false) none
+  no_lists : Follows None None
+  lists : {a b : Bool} → (a ≡ true → b ≡ true) → Follows (Some a) (Some b)
+  list_gone : Follows (Some false) None
 
 decided-keeps : (a b : Bool) → (a ≡ true → b ≡ true) → decided a ≡ enabled → decided b ≡ enabled
 unfolding decided
@@ -359,10 +351,6 @@ below-same p q (suc k) h = rw (below-same p q k (λ n lt. h n (omega arith)), h 
 pub mask-same : (p q : ℕ → Decision) → ((n : ℕ) → n < feature_count → p n ≡ q n) → mask_of p ≡ mask_of q
 mask-same p q h = below-same p q feature_count h
 
--- the number that `mask` answers, by the decisions at its places
-pub mask-places : (l : List Answer) (p : ℕ → Decision) → ((n : ℕ) → n < feature_count → decision_in (get_or l n answer.Disabled) ≡ p n) → mask_of (decisions_in l) ≡ mask_of p
-mask-places l p h = mask-same (decisions_in l) p (λ n lt. unfold decisions_in in (h n lt))
-
 -- a number with no bit from 17 on is the number of its bits
 bit-read : (b : ℕ) → b < 2 → bit_of (decided (eqb b 1)) ≡ b
 unfolding decided
@@ -403,7 +391,7 @@ unfolding forecast
 forecast-is p f q h = mask-same q (λ n. inherited_in p f f.declared n) h
 
 -- where nothing is declared, what is inherited is enabled at the own origin
-pub enabled-undeclared : (p : Policy) → same_origin p.own p.own ≡ true → ((n : ℕ) → p.declared n ≡ none) → enabled_mask p ≡ mask_of p.inherited
+pub enabled-undeclared : (p : Policy) → same_origin p.own p.own ≡ true → ((n : ℕ) → p.declared n ≡ None) → enabled_mask p ≡ mask_of p.inherited
 unfolding enabled_mask
 enabled-undeclared p own h = mask-same (λ n. question_in p n p.own) p.inherited (λ n low. own-agrees-in p n own ∙ value-undeclared p n p.own (h n))
 

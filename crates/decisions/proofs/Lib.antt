@@ -1,4 +1,3 @@
-pub mod Arms
 pub mod Masks
 pub mod Laws
 pub mod Everywhere

@@ -1,6 +1,5 @@
 -- The decisions as one number: a bit set or left clear at each turn. Assumes nothing.
 use mathlib.Core.Path.{◌≡◌, refl, ap, ◌∙◌, sym}
-use mathlib.Core.List.{List}
 use mathlib.Core.Logic.{⊎_elim}
 use Prim.Native.Nat.{ℕ, zero, suc, ◌+◌, ◌-◌, ◌*◌, ◌^◌, ◌/◌, ◌%◌, ◌<◌, ◌≤◌}
 use native.Mathlib.Nat.{pow-suc, add_comm, mul_assoc, add-mul-mod_self_right, eq-or-lt_of_le, div-eq_of_lt, lt_of_lt_of_le}
@@ -8,14 +7,11 @@ use native.Mathlib.Numerals.{add-one}
 use native.Mathlib.Omega.{arith}
 use lib.Bits.{bit_or, or_shifted_r}
 use lib.Pow.{shl_exact, pow_mono, pow-add, high, field}
-use lib.Dec.{eqb}
-use lib.ListN.{get_or}
 use Rattle.features.specs.Features.{feature_count}
 use Rattle.decisions.specs.Decisions.{Decision, decided}
 use Rattle.decisions.specs.Decisions.Decision.{disabled, enabled}
 use Rattle.decisions.specs.Masks.{bit_of, mask_below, decision_at}
-use Rattle.decisions.specs.Answers.{decision_in, decisions_in}
-use Rattle.decisions.specs.declared.Decision.{Decision as Answer}
+use Rattle.decisions.specs.Answers.{decision_in}
 use Rattle.decisions.specs.declared.Decision.TheVariants as answer
 
 mask_next : (d : Decision) (m n : ℕ) → m < 2 ^ n → m + bit_of d * 2 ^ n < 2 ^ suc n
@@ -41,16 +37,12 @@ unfolding mask_below
 mask-left p i e = rw (add-one, e) (omega arith)
 
 -- one turn of the loop
-module _ (l : List Answer) (r i : ℕ) (so : r ≡ mask_below (decisions_in l) i) where
-  pub turn-enabled : i < feature_count → get_or l i answer.Disabled ≡ answer.Enabled → bit_or r ((1 * 2 ^ i) % 4294967296) ≡ mask_below (decisions_in l) (i + 1)
-  turn-enabled lt e = rw so (mask-set (decisions_in l) i (omega arith) (unfold decisions_in in (rw e)))
+module _ (p : ℕ → Decision) (r i q : ℕ) (so : r ≡ mask_below p i) where
+  pub turn-enabled : i < feature_count → decision_in answer.Enabled ≡ p i → q ≡ bit_or r ((1 * 2 ^ i) % 4294967296) → q ≡ mask_below p (i + 1)
+  turn-enabled lt e is = is ∙ rw so (mask-set p i (omega arith) (sym e))
 
-  pub turn-disabled : get_or l i answer.Disabled ≡ answer.Disabled → r ≡ mask_below (decisions_in l) (i + 1)
-  turn-disabled e = so ∙ mask-left (decisions_in l) i (unfold decisions_in in (rw e))
-
-  -- the loop's end
-  pub turns-end : feature_count ≤ i → i ≤ feature_count → r ≡ mask_below (decisions_in l) feature_count
-  turns-end low high = let e : i ≡ feature_count = omega arith in rw e at so
+  pub turn-disabled : decision_in answer.Disabled ≡ p i → q ≡ r → q ≡ mask_below p (i + 1)
+  turn-disabled e is = is ∙ (so ∙ mask-left p i (sym e))
 
 bit-mod : (d : Decision) → bit_of d % 2 ≡ bit_of d
 bit-mod disabled = refl
@@ -79,10 +71,8 @@ pub bits-past : (m n k : ℕ) → m < 2 ^ k → k ≤ n → decision_at m n ≡ 
 unfolding decision_at decided
 bits-past m n k h le = rw (div-eq_of_lt (lt_of_lt_of_le h (pow_mono le)))
 
--- a bit that is read, and one that no number has
-pub bit-read : (r : Answer) (m n : ℕ) → decision_in r ≡ decided (eqb (m / 2 ^ n % 2) 1) → decision_in r ≡ decision_at m n
-unfolding decision_at
-bit-read r m n is = is
-
+-- a bit that no number has
 pub bit-none : (m n : ℕ) → m < 2 ^ 32 → 32 ≤ n → disabled ≡ decision_at m n
 bit-none m n h le = sym (bits-past m n 32 h le)
+
+pub ruleset bits = (bit-none, bits-past)

@@ -1,6 +1,6 @@
 -- 01, "How a decision falls": its sentences, told what the lists answer.
 use Rattle.std.specs.Prelude.{Bool, true, false}
-use Rattle.std.proofs.Math.Option.{Option, some, none}
+use Rattle.std.specs.Prelude.{Option, Some, None}
 use Rattle.features.specs.Features.{Default}
 use Rattle.features.specs.Features.Default.{star, self}
 
@@ -21,14 +21,14 @@ unless_disabled enabled other = other
 
 -- "if declared, by the list; else": by what the list answers, and without a list another decision
 unfoldable pub by_list : Option Bool → Decision → Decision
-by_list (some admitted) other = decided admitted
-by_list none other = other
+by_list (Some admitted) other = decided admitted
+by_list None other = other
 
 -- "Enabled for default *; else Enabled only for the document's own origin": told whether the origin is the own one; a number of no feature has no default *
 unfoldable pub by_default : Option Default → Bool → Decision
-by_default (some star) same = enabled
-by_default (some self) same = decided same
-by_default none same = decided same
+by_default (Some star) same = enabled
+by_default (Some self) same = decided same
+by_default None same = decided same
 
 -- "*Value* of a feature in a document for an origin: Disabled if inherited Disabled; else, if declared, by the list; else Enabled."
 unfoldable pub value_by : Decision → Option Bool → Decision

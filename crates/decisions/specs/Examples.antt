@@ -1,6 +1,6 @@
 -- 01, "How a decision falls", told what the lists answer: rows of its three sentences, by computation.
 use Rattle.std.specs.Prelude.{◌≡◌, refl, [], ◌∷◌, Bool, true, false}
-use Rattle.std.proofs.Math.Option.{Option, some, none}
+use Rattle.std.specs.Prelude.{Option, Some, None}
 use Rattle.ascii.specs.Texts.{every}
 use Rattle.features.specs.Features.{Default}
 use Rattle.features.specs.Features.Default.{star, self}
@@ -24,15 +24,15 @@ pub data Row : Type 0 where
 
 abbrev right : Row → Bool
 right (value i d r) = same_decision r (value_by i d)
-right (question i d default same r) = same_decision r (question_by i d (some default) same)
-right (inherited own arriving a default same r) = same_decision r (inherited_by own arriving a (some default) same)
+right (question i d default same r) = same_decision r (question_by i d (Some default) same)
+right (inherited own arriving a default same r) = same_decision r (inherited_by own arriving a (Some default) same)
 
 -- *Value* and *Question* differ where undeclared; a header never wins over what is inherited; an entry replaces the default both ways; the container's own origin is checked too
 rows_right : every right
-    (value enabled none enabled ∷ value enabled (some false) disabled ∷ value disabled (some true) disabled
-    ∷ question enabled none self false disabled ∷ question enabled none self true enabled ∷ question enabled none star false enabled ∷ question disabled (some true) star true disabled
-    ∷ inherited enabled enabled none self false disabled ∷ inherited enabled enabled none star false enabled ∷ inherited enabled enabled (some false) star true disabled
-    ∷ inherited enabled enabled (some true) self false enabled ∷ inherited disabled enabled (some true) star true disabled ∷ inherited enabled disabled (some true) star true disabled
+    (value enabled None enabled ∷ value enabled (Some false) disabled ∷ value disabled (Some true) disabled
+    ∷ question enabled None self false disabled ∷ question enabled None self true enabled ∷ question enabled None star false enabled ∷ question disabled (Some true) star true disabled
+    ∷ inherited enabled enabled None self false disabled ∷ inherited enabled enabled None star false enabled ∷ inherited enabled enabled (Some false) star true disabled
+    ∷ inherited enabled enabled (Some true) self false enabled ∷ inherited disabled enabled (Some true) star true disabled ∷ inherited enabled disabled (Some true) star true disabled
     ∷ []) ≡ true
 unfolding computing
 rows_right = refl

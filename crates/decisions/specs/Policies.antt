@@ -1,6 +1,6 @@
 -- 01, "How a decision falls": decisions of lists and origins. No table is spoken of.
 use Rattle.std.specs.Prelude.{ℕ}
-use Rattle.std.proofs.Math.Option.{Option}
+use Rattle.std.specs.Prelude.{Option}
 use Rattle.features.specs.Features.{Default, default_of}
 use Rattle.origins.specs.Origins.{Origin}
 use Rattle.origins.specs.Matching.{same_origin}

@@ -1,26 +1,28 @@
 // Value, inherited and question of a feature, told what the lists answer; and the decisions of the seventeen features as one number.
 #![tactic(auto)]
 
-ghost use Rattle.std.specs.Prelude.{◌≡◌};
+ghost use Rattle.std.specs.Prelude.{◌≡◌, ◌<◌, ℕ};
+ghost use Rattle.features.specs.Features.{feature_count};
+ghost use Rattle.decisions.specs.Decisions.{Decision as Rule};
+ghost use Rattle.decisions.specs.declared.Decision.{Decision};
 ghost use Rattle.features.specs.Answers.{default_in};
-ghost use Rattle.allowlists.specs.Answers.{admission_in};
-ghost use Rattle.decisions.specs.Decisions.{decided, by_default, value_by, inherited_by, question_by};
+ghost use Rattle.decisions.specs.Decisions.{decided, by_list, by_default, value_by, inherited_by, question_by};
 ghost use Rattle.decisions.specs.Masks.{mask_of, decision_at};
-ghost use Rattle.decisions.specs.Answers.{decision_in, decisions_in};
+ghost use Rattle.decisions.specs.Answers.{decision_in};
 
-use allowlists::Admission;
-use features::DefaultOf;
+use features::DefaultAllowlist;
 
 // A bit for each of the seventeen features: what a document at the top inherits.
 pub const ALL_FEATURES: u32 = 131_071;
 
-#[derive(Clone, Copy)]
+#[derive(Clone, Copy, PartialEq, Eq)]
 pub enum Decision {
     Disabled,
     Enabled,
 }
 
 // Enabled where a test passes.
+#[tactic(auto, unfolding(crate::specs::Decisions::decided))]
 fn decided(yes: bool) -> Decision
     ensures { decision_in result ≡ decided yes }
 {
@@ -31,28 +33,30 @@ fn decided(yes: bool) -> Decision
     }
 }
 
+// By what a list answers, and without a list another decision.
+#[tactic(auto, unfolding(crate::specs::Decisions::by_list))]
+fn by_list(admitted: Option<bool>, other: Decision) -> Decision
+    ensures { decision_in result ≡ by_list admitted (decision_in other) }
+{
+    admitted.map_or(other, decided)
+}
+
 // By the default list; `same`: the origin is the own one.
-fn by_default(default: DefaultOf, same: bool) -> Decision
+#[tactic(auto, unfolding(crate::specs::Decisions::by_default, crate::specs::Decisions::decided))]
+fn by_default(default: Option<DefaultAllowlist>, same: bool) -> Decision
     ensures { decision_in result ≡ by_default (default_in default) same }
 {
-    match default {
-        DefaultOf::All => Decision::Enabled,
-        DefaultOf::SelfOnly => decided(same),
-        DefaultOf::NoSuchFeature => decided(same),
-    }
+    decided(same || default == Some(DefaultAllowlist::All))
 }
 
 // The value of a feature in a document for an origin: by what is inherited, and by what the declared list answers for that origin.
-pub fn value(inherited: Decision, declared: Admission) -> Decision
-    ensures { decision_in result ≡ value_by (decision_in inherited) (admission_in declared) }
+#[tactic(auto, unfolding(crate::specs::Decisions::value_by, crate::specs::Decisions::unless_disabled))]
+pub fn value(inherited: Decision, declared: Option<bool>) -> Decision
+    ensures { decision_in result ≡ value_by (decision_in inherited) declared }
 {
     match inherited {
         Decision::Disabled => Decision::Disabled,
-        Decision::Enabled => match declared {
-            Admission::NoList => Decision::Enabled,
-            Admission::Admitted => Decision::Enabled,
-            Admission::NotAdmitted => Decision::Disabled,
-        },
+        Decision::Enabled => by_list(declared, Decision::Enabled),
     }
 }
 
@@ -62,74 +66,56 @@ pub fn value(inherited: Decision, declared: Admission) -> Decision
 pub struct Framed {
     pub value_own: Decision,
     pub value_arriving: Decision,
-    pub allowed: Admission,
-    pub default: DefaultOf,
+    pub allowed: Option<bool>,
+    pub default: Option<DefaultAllowlist>,
     pub same: bool,
 }
 
 // What a framed document inherits for a feature.
+#[tactic(auto, unfolding(crate::specs::Decisions::inherited_by, crate::specs::Decisions::unless_disabled))]
 pub fn inherited(f: Framed) -> Decision
-    ensures { decision_in result ≡ inherited_by (decision_in f.value_own) (decision_in f.value_arriving) (admission_in f.allowed) (default_in f.default) f.same }
+    ensures { decision_in result ≡ inherited_by (decision_in f.value_own) (decision_in f.value_arriving) f.allowed (default_in f.default) f.same }
 {
     let own = f.value_own;
-    let arriving = f.value_arriving;
-    let allowed = f.allowed;
-    let default = f.default;
-    match own {
-        Decision::Disabled => Decision::Disabled,
-        Decision::Enabled => match arriving {
-            Decision::Disabled => Decision::Disabled,
-            Decision::Enabled => match allowed {
-                Admission::NoList => by_default(default, f.same),
-                Admission::Admitted => Decision::Enabled,
-                Admission::NotAdmitted => Decision::Disabled,
-            },
-        },
+    match (own, f.value_arriving) {
+        (Decision::Enabled, Decision::Enabled) => by_list(f.allowed, by_default(f.default, f.same)),
+        _ => Decision::Disabled,
     }
 }
 
 // The question of a feature in a document for an origin; `same`: it is the document's own.
+#[tactic(auto, unfolding(crate::specs::Decisions::question_by, crate::specs::Decisions::unless_disabled))]
 pub fn question(
     inherited: Decision,
-    declared: Admission,
-    default: DefaultOf,
+    declared: Option<bool>,
+    default: Option<DefaultAllowlist>,
     same: bool,
 ) -> Decision
-    ensures { decision_in result ≡ question_by (decision_in inherited) (admission_in declared) (default_in default) same }
+    ensures { decision_in result ≡ question_by (decision_in inherited) declared (default_in default) same }
 {
     match inherited {
         Decision::Disabled => Decision::Disabled, // whatever the header declares
-        Decision::Enabled => match declared {
-            Admission::NoList => by_default(default, same),
-            Admission::Admitted => Decision::Enabled,
-            Admission::NotAdmitted => Decision::Disabled,
-        },
+        Decision::Enabled => by_list(declared, by_default(default, same)),
     }
 }
 
 // The decisions of the seventeen features as one number: bit n for feature n, and no other bit.
-pub fn mask(decisions: [Decision; features::COUNT]) -> u32
-    ensures { result ≡ mask_of (decisions_in decisions) }
+pub fn mask<F: Fn(u32) -> Decision>(decide: F) -> u32
+    requires { (n : ℕ) → n < feature_count → F.pre decide n }
+    ensures { (p : ℕ → Rule) → ((n : ℕ) (d : Decision) → n < feature_count → F.post decide n d → decision_in d ≡ p n) → result ≡ mask_of p }
 {
     let mut r: u32 = 0;
-    let mut i: u32 = 0;
-    while i < features::COUNT as u32 {
-        let k = i as usize;
-        let d = decisions[k];
-        match d {
-            Decision::Enabled => {
-                r = r | (1u32 << i);
-                i += 1;
-            }
-            Decision::Disabled => {
-                i += 1;
-            }
+    for n in 0..features::COUNT as u32 {
+        match decide(n) {
+            Decision::Enabled => r |= 1 << n,
+            Decision::Disabled => {}
         }
     }
     r
 }
 
 // The decision of bit n in a number: Enabled where it is set; a number has no bit past 31.
+#[tactic(auto, unfolding(crate::specs::Masks::decision_at), using(crate::proofs::Masks::bits))]
 pub fn decision_at(mask: u32, n: u32) -> Decision
     ensures { decision_in result ≡ decision_at mask n }
 {

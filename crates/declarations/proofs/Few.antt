@@ -3,7 +3,7 @@ use mathlib.Core.Path.{◌≡◌, refl, ap, ◌∙◌}
 use Prim.Native.Nat.{ℕ, ◌+◌, ◌*◌, ◌≤◌}
 use mathlib.Core.List.{List, [], ◌∷◌, map}
 use mathlib.Core.Bool.{Bool}
-use mathlib.Core.Option.{Option, some, none}
+use Rattle.std.specs.Prelude.{Option, Some, None}
 use native.Mathlib.Omega.{arith}
 use lib.ListN.{length}
 use Rattle.ascii.proofs.Clash.{clash}
@@ -55,23 +55,23 @@ sources-lone m = rw (sources-cons m [], sources-nil) (go m)
     go nothing = rw (with_nothing []) (omega arith)
 
 -- a header of so many bytes declares at most one expression more than a seventh of them
-pub declares-few : (s : List ℕ) (n : ℕ) (a b : Bool) (es : List SourceExpression) → declares s n ≡ some (listed a b es) → 7 * length es ≤ length s + 7
+pub declares-few : (s : List ℕ) (n : ℕ) (a b : Bool) (es : List SourceExpression) → declares s n ≡ Some (listed a b es) → 7 * length es ≤ length s + 7
 unfolding declares
 declares-few s n a b es e = go (last_value_in (name_of n) (members s)) refl e
   where
-    lone : (m : Meaning) (d : Option Allowlist) → Lone m d → d ≡ some (listed a b es) → 7 * length es ≤ length s + 7
-    lone m none (ignored k) f = clash cc
-    lone m (some l) counted f =
+    lone : (m : Meaning) (d : Option Allowlist) → Lone m d → d ≡ Some (listed a b es) → 7 * length es ≤ length s + 7
+    lone m None (ignored k) f = clash cc
+    lone m (Some l) counted f =
         let q : allowlist_of (m ∷ []) ≡ listed a b es = cc in
         omega (arith, sources-lone m, ap length (listed-sources (m ∷ []) a b es q))
 
-    value : (v : Value) → last_value_in (name_of n) (members s) ≡ some (some v) → value_declares v ≡ some (listed a b es) → 7 * length es ≤ length s + 7
+    value : (v : Value) → last_value_in (name_of n) (members s) ≡ Some (Some v) → value_declares v ≡ Some (listed a b es) → 7 * length es ≤ length s + 7
     value (one x) f h = lone (item_meaning x) (lone_declares (item_meaning x)) (lone-cases (item_meaning x)) (unfold value_declares in h)
     value (many xs) f h =
         let q : items_list xs ≡ listed a b es = unfold value_declares in cc in
         omega (arith, sources-bytes xs, ap length (listed-sources (map item_meaning xs) a b es q), last-bytes s (name_of n) xs f)
 
-    go : (o : Option (Option Value)) → last_value_in (name_of n) (members s) ≡ o → last_declares o ≡ some (listed a b es) → 7 * length es ≤ length s + 7
-    go (some (some v)) f h = value v f (unfold last_declares in h)
-    go (some none) f h = clash (unfold last_declares in cc)
-    go none f h = clash (unfold last_declares in cc)
+    go : (o : Option (Option Value)) → last_value_in (name_of n) (members s) ≡ o → last_declares o ≡ Some (listed a b es) → 7 * length es ≤ length s + 7
+    go (Some (Some v)) f h = value v f (unfold last_declares in h)
+    go (Some None) f h = clash (unfold last_declares in cc)
+    go None f h = clash (unfold last_declares in cc)

@@ -1,12 +1,13 @@
 -- What an item means, in the terms of the code: a part of the laws of this crate. Assumes nothing.
+use Rattle.std.specs.Prelude.{Option, None}
 use mathlib.Core.Path.{◌≡◌, refl}
 use Prim.Native.Nat.{ℕ}
 use mathlib.Core.List.{List}
 use mathlib.Core.Bool.{Bool, true, false}
-use mathlib.Core.Option.{some}
+use Rattle.std.specs.Prelude.{Some}
 use Rattle.ascii.specs.Bytes.{pick}
 use Rattle.ascii.specs.Literals.{text}
-use Rattle.ascii.specs.Texts.{same_bytes, part_of}
+use Rattle.ascii.specs.Texts.{same_bytes, part_in}
 use Rattle.ascii.proofs.Clash.{clash}
 use Rattle.origins.specs.Expressions.{SourceExpression, expression_of}
 use Rattle.items.specs.Items.{Item}
@@ -26,21 +27,21 @@ use Rattle.declarations.specs.Declarations.{token_meaning, item_meaning}
 
 -- a token, test by test
 module _ (t : List ℕ) (a : Bool) (u : a ≡ same_bytes t (text "*")) where
-  pub token-star : a ≡ true → range.All ≡ meaning_as (token_meaning t)
+  pub token-star : a ≡ true → (Some range.All) ≡ meaning_as (token_meaning t)
   unfolding token_meaning pick
   token-star v = rw (← u, v)
 
   module _ (v : a ≡ false) (b : Bool) (w : b ≡ same_bytes t (text "self")) where
-    pub token-self : b ≡ true → range.SelfOrigin ≡ meaning_as (token_meaning t)
+    pub token-self : b ≡ true → (Some range.SelfOrigin) ≡ meaning_as (token_meaning t)
     unfolding token_meaning pick
     token-self x = rw (← u, v, ← w, x)
 
-    pub token-nothing : b ≡ false → range.Nothing ≡ meaning_as (token_meaning t)
+    pub token-nothing : b ≡ false → None ≡ meaning_as (token_meaning t)
     unfolding token_meaning pick
     token-nothing x = rw (← u, v, ← w, x)
 
 -- an item by its kind
-module _ (s : List ℕ) (p : ItemRange) (t : List ℕ) (m : t ≡ part_of s p.from p.to) (r : MeaningRange) where
+module _ (s : List ℕ) (p : ItemRange) (t : List ℕ) (m : t ≡ part_in s p.text) (r : Option MeaningRange) where
   pub item-token : r ≡ meaning_as (token_meaning t) → p.kind ≡ kind.Token → r ≡ meaning_as (item_meaning (item_in s p))
   unfolding item_meaning
   item-token h k = rw (token-in s p k, ← m) h
@@ -49,7 +50,7 @@ module _ (s : List ℕ) (p : ItemRange) (t : List ℕ) (m : t ≡ part_of s p.fr
   unfolding item_meaning
   item-string h k = rw (string-in s p k, ← m) h
 
-pub item-other : (s : List ℕ) (p : ItemRange) → p.kind ≡ kind.Other → range.Nothing ≡ meaning_as (item_meaning (item_in s p))
+pub item-other : (s : List ℕ) (p : ItemRange) → p.kind ≡ kind.Other → None ≡ meaning_as (item_meaning (item_in s p))
 unfolding item_meaning
 item-other s p k = rw (other-in s p k)
 
@@ -67,7 +68,7 @@ token-no-source : (t : List ℕ) (y : SourceExpression) → token_meaning t ≡ 
 token-no-source t y = token-means t (λ m. m ≡ source y → ⊥) (λ e. clash cc) (λ e. clash cc) (λ e. clash cc)
 
 -- an item that means an expression is a string that is the expression
-pub source-item : (x : Item) (y : SourceExpression) → item_meaning x ≡ source y → (t : List ℕ) × (x ≡ string t) × (expression_of t ≡ some y)
+pub source-item : (x : Item) (y : SourceExpression) → item_meaning x ≡ source y → (t : List ℕ) × (x ≡ string t) × (expression_of t ≡ Some y)
 unfolding item_meaning
 source-item (token t) y e = absurd (token-no-source t y e)
 source-item (string t) y e = (t, refl, source_is (expression_of t) y e)
@@ -80,14 +81,14 @@ item-no-src (token t) e = token-means t (λ m. m ≡ src → ⊥) (λ f. clash c
 item-no-src (string t) e = source-no-src (expression_of t) e
 item-no-src other e = clash cc
 
-kind-source : (s : List ℕ) (p : ItemRange) (y : SourceExpression) (k : ItemKind) → p.kind ≡ k → item_meaning (item_in s p) ≡ source y → expression_of (part_of s p.from p.to) ≡ some y
+kind-source : (s : List ℕ) (p : ItemRange) (y : SourceExpression) (k : ItemKind) → p.kind ≡ k → item_meaning (item_in s p) ≡ source y → expression_of (part_in s p.text) ≡ Some y
 unfolding item_meaning
-kind-source s p y kind.Token k e = absurd (token-no-source (part_of s p.from p.to) y (rw (token-in s p k) at e))
-kind-source s p y kind.String k e = source_is (expression_of (part_of s p.from p.to)) y (rw (string-in s p k) at e)
+kind-source s p y kind.Token k e = absurd (token-no-source (part_in s p.text) y (rw (token-in s p k) at e))
+kind-source s p y kind.String k e = source_is (expression_of (part_in s p.text)) y (rw (string-in s p k) at e)
 kind-source s p y kind.Other k e =
     let f : nothing ≡ source y = rw (other-in s p k) at e in
     clash cc
 
 -- what `meaning` answers, beside the item's text, says what the item means
-pub item-in : (s : List ℕ) (p : ItemRange) (x : List ℕ) (r : MeaningRange) → x ≡ part_of s p.from p.to → r ≡ meaning_as (item_meaning (item_in s p)) → meaning_in x r ≡ item_meaning (item_in s p)
+pub item-in : (s : List ℕ) (p : ItemRange) (x : List ℕ) (r : Option MeaningRange) → x ≡ part_in s p.text → r ≡ meaning_as (item_meaning (item_in s p)) → meaning_in x r ≡ item_meaning (item_in s p)
 item-in s p x r m h = rw h (meaning-in x (item_meaning (item_in s p)) (λ y e. rw m (kind-source s p y p.kind refl e)))

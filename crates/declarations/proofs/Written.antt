@@ -3,7 +3,7 @@ use mathlib.Core.Path.{◌≡◌, refl, ap, ◌∙◌, sym}
 use Prim.Native.Nat.{ℕ}
 use mathlib.Core.List.{List, [], ◌∷◌, map}
 use mathlib.Core.Bool.{Bool, true, false}
-use mathlib.Core.Option.{Option, some, none}
+use Rattle.std.specs.Prelude.{Option, Some, None}
 use Rattle.ascii.specs.Bytes.{pick}
 use Rattle.ascii.specs.Literals.{text}
 use Rattle.ascii.specs.Texts.{same_by}
@@ -41,9 +41,9 @@ strings empty = refl
 strings (and {x = e} {xs = es} g gs) = rw (string-meaning e g, strings gs)
 
 -- a list of good expressions as strings declares just them; with `self` before them, `self` too
-pub list_back : (es : List SourceExpression) → All GoodExpression es → value_declares (many (map source_string es)) ≡ some (listed false false es)
+pub list_back : (es : List SourceExpression) → All GoodExpression es → value_declares (many (map source_string es)) ≡ Some (listed false false es)
 unfolding value_declares
-list_back es g = ap some (ap allowlist_of (strings g) ∙ sources-plain es)
+list_back es g = ap Some (ap allowlist_of (strings g) ∙ sources-plain es)
 
 self-token : item_meaning (token (text "self")) ≡ self
 unfolding item_meaning token_meaning same_by pick
@@ -53,42 +53,42 @@ star-token : item_meaning (token (text "*")) ≡ star
 unfolding item_meaning token_meaning same_by pick
 star-token = refl
 
-pub self-list-back : (es : List SourceExpression) → All GoodExpression es → value_declares (many (token (text "self") ∷ map source_string es)) ≡ some (listed true false es)
+pub self-list-back : (es : List SourceExpression) → All GoodExpression es → value_declares (many (token (text "self") ∷ map source_string es)) ≡ Some (listed true false es)
 unfolding value_declares
-self-list-back es g = ap some (ap allowlist_of (rw (self-token, strings g)) ∙ self-sources-plain es)
+self-list-back es g = ap Some (ap allowlist_of (rw (self-token, strings g)) ∙ self-sources-plain es)
 
 -- the token `*` declares `*`
-pub star-back : value_declares (one (token (text "*"))) ≡ some all
+pub star-back : value_declares (one (token (text "*"))) ≡ Some all
 unfolding value_declares lone_declares
-star-back = rw star-token (ap some star-alone)
+star-back = rw star-token (ap Some star-alone)
 
 -- what a header declares, by its members
-module _ (s : List ℕ) (n : ℕ) (ms : List Plain) (e : members s ≡ some ms) where
-  pub declares-value : (v : Value) → last_value_in (name_of n) (some ms) ≡ some (some v) → declares s n ≡ value_declares v
+module _ (s : List ℕ) (n : ℕ) (ms : List Plain) (e : members s ≡ Some ms) where
+  pub declares-value : (v : Value) → last_value_in (name_of n) (Some ms) ≡ Some (Some v) → declares s n ≡ value_declares v
   unfolding declares last_declares
   declares-value v f = rw (e, f)
 
-  pub declares-none : last_value_in (name_of n) (some ms) ≡ some none → declares s n ≡ none
+  pub declares-none : last_value_in (name_of n) (Some ms) ≡ Some None → declares s n ≡ None
   unfolding declares last_declares
   declares-none f = rw (e, f)
 
 -- of a declared list: what holds of the list that any items make, and of that of a lone item, holds of it
-pub declared-list : (P : Allowlist → Type 0) → ((xs : List Item) → P (items_list xs)) → (s : List ℕ) (n : ℕ) (l : Allowlist) → declares s n ≡ some l → P l
+pub declared-list : (P : Allowlist → Type 0) → ((xs : List Item) → P (items_list xs)) → (s : List ℕ) (n : ℕ) (l : Allowlist) → declares s n ≡ Some l → P l
 unfolding declares
 declared-list P h s n l e = go (last_value_in (name_of n) (members s)) e
   where
-    lone : (x : Item) (d : Option Allowlist) → Lone (item_meaning x) d → d ≡ some l → P l
-    lone x none (ignored k) f = clash cc
-    lone x (some m) counted f = let q : allowlist_of (item_meaning x ∷ []) ≡ l = cc in rw q at (h (x ∷ []))
+    lone : (x : Item) (d : Option Allowlist) → Lone (item_meaning x) d → d ≡ Some l → P l
+    lone x None (ignored k) f = clash cc
+    lone x (Some m) counted f = let q : allowlist_of (item_meaning x ∷ []) ≡ l = cc in rw q at (h (x ∷ []))
 
-    value : (v : Value) → value_declares v ≡ some l → P l
+    value : (v : Value) → value_declares v ≡ Some l → P l
     value (one x) f = lone x (lone_declares (item_meaning x)) (lone-cases (item_meaning x)) (unfold value_declares in f)
     value (many xs) f = let q : items_list xs ≡ l = unfold value_declares in cc in rw q at (h xs)
 
-    go : (o : Option (Option Value)) → last_declares o ≡ some l → P l
-    go (some (some v)) f = value v (unfold last_declares in f)
-    go (some none) f = clash (unfold last_declares in cc)
-    go none f = clash (unfold last_declares in cc)
+    go : (o : Option (Option Value)) → last_declares o ≡ Some l → P l
+    go (Some (Some v)) f = value v (unfold last_declares in f)
+    go (Some None) f = clash (unfold last_declares in cc)
+    go None f = clash (unfold last_declares in cc)
 
 -- its expressions are such as a text can say
 source-good : (x : Item) (y : SourceExpression) → item_meaning x ≡ source y → GoodExpression y
@@ -105,7 +105,7 @@ sources-good (x ∷ xs) = rw (sources-cons (item_meaning x) (map item_meaning xs
     go (source y) e g = rw (with-source y (sources_of (map item_meaning xs))) (and (source-good x y e) g)
     go nothing e g = rw (with_nothing (sources_of (map item_meaning xs))) g
 
-pub declares-good : (s : List ℕ) (n : ℕ) (a b : Bool) (es : List SourceExpression) → declares s n ≡ some (listed a b es) → All GoodExpression es
+pub declares-good : (s : List ℕ) (n : ℕ) (a b : Bool) (es : List SourceExpression) → declares s n ≡ Some (listed a b es) → All GoodExpression es
 declares-good s n a b es e =
     declared-list (λ l. (x y : Bool) (fs : List SourceExpression) → l ≡ listed x y fs → All GoodExpression fs)
     (λ xs x y fs k. rw (listed-sources (map item_meaning xs) x y fs k) at (sources-good xs))
@@ -123,7 +123,7 @@ no_src (x ∷ xs) = go (item_meaning x) refl (no_src xs)
     go (source y) e g = rw (has-cons is_src (source y) (map item_meaning xs)) g
     go nothing e g = rw (has-cons is_src nothing (map item_meaning xs)) g
 
-pub declares-no-src : (s : List ℕ) (n : ℕ) (a b : Bool) (es : List SourceExpression) → declares s n ≡ some (listed a b es) → b ≡ false
+pub declares-no-src : (s : List ℕ) (n : ℕ) (a b : Bool) (es : List SourceExpression) → declares s n ≡ Some (listed a b es) → b ≡ false
 declares-no-src s n a b es e =
     declared-list (λ l. (x y : Bool) (fs : List SourceExpression) → l ≡ listed x y fs → y ≡ false)
     (λ xs x y fs k. sym (listed-src (map item_meaning xs) x y fs k) ∙ no_src xs)

@@ -1,6 +1,6 @@
 -- 01, "Header and attribute": what the items of a header mean, and what the header declares.
 use Rattle.std.specs.Prelude.{ℕ, List, [], ◌∷◌, map, Bool, false, not}
-use Rattle.std.proofs.Math.Option.{Option, some, none}
+use Rattle.std.specs.Prelude.{Option, Some, None}
 use Rattle.ascii.specs.Bytes.{pick}
 use Rattle.ascii.specs.Literals.{text}
 use Rattle.ascii.specs.Texts.{same_bytes}
@@ -32,21 +32,21 @@ items_list xs = allowlist_of (map item_meaning xs)
 
 -- a lone item declares what a list of it alone would; "any other value and the member is ignored, the feature undeclared"
 unfoldable pub lone_declares : Meaning → Option Allowlist
-lone_declares star = some (allowlist_of (star ∷ []))
-lone_declares self = some (allowlist_of (self ∷ []))
-lone_declares src = some (allowlist_of (src ∷ []))
-lone_declares (source e) = some (allowlist_of (source e ∷ []))
-lone_declares nothing = none
+lone_declares star = Some (allowlist_of (star ∷ []))
+lone_declares self = Some (allowlist_of (self ∷ []))
+lone_declares src = Some (allowlist_of (src ∷ []))
+lone_declares (source e) = Some (allowlist_of (source e ∷ []))
+lone_declares nothing = None
 
 unfoldable pub value_declares : Value → Option Allowlist
 value_declares (one x) = lone_declares (item_meaning x)
-value_declares (many xs) = some (items_list xs)
+value_declares (many xs) = Some (items_list xs)
 
 -- of the last value of a key, if the header is a dictionary and has that key: "A malformed header declares nothing"
 unfoldable pub last_declares : Option (Option Value) → Option Allowlist
-last_declares (some (some v)) = value_declares v
-last_declares (some none) = none
-last_declares none = none
+last_declares (Some (Some v)) = value_declares v
+last_declares (Some None) = None
+last_declares None = None
 
 -- what a header declares for a feature: none, or an allowlist; "A repeated key keeps only its last value"
 unfoldable pub declares : List ℕ → ℕ → Option Allowlist

@@ -10,27 +10,26 @@ use allowlists::MeaningRange;
 use items::{ItemKind, ItemRange};
 
 // What a token means.
-fn token_meaning(t: &[u8]) -> MeaningRange
+fn token_meaning(t: &[u8]) -> Option<MeaningRange>
     ensures { result ≡ meaning_as (token_meaning t.now) }
 {
     if ascii::same(t, b"*") {
-        return MeaningRange::All;
+        Some(MeaningRange::All)
+    } else if ascii::same(t, b"self") {
+        Some(MeaningRange::SelfOrigin)
+    } else {
+        None
     }
-    if ascii::same(t, b"self") {
-        return MeaningRange::SelfOrigin;
-    }
-    MeaningRange::Nothing
 }
 
 // What an item of a header means; an expression's host is a range of the item's text.
-pub fn meaning(s: &[u8], item: ItemRange) -> MeaningRange
+pub fn meaning(s: &[u8], item: ItemRange) -> Option<MeaningRange>
     ensures { result ≡ meaning_as (item_meaning (item_in s.now item)) }
 {
-    let kind = item.kind;
-    let t = ascii::part(s, item.from, item.to);
-    match kind {
+    let t = item.text.of(s);
+    match item.kind {
         ItemKind::Token => token_meaning(t),
         ItemKind::String => allowlists::source_meaning(t),
-        ItemKind::Other => MeaningRange::Nothing,
+        ItemKind::Other => None,
     }
 }

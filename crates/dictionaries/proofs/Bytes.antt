@@ -3,7 +3,7 @@ use mathlib.Core.Path.{◌≡◌, refl, ap, ◌∙◌, sym}
 use Prim.Native.Nat.{ℕ, zero, suc, ◌+◌, ◌≤◌}
 use mathlib.Core.List.{List, [], ◌∷◌, ◌++◌}
 use mathlib.Core.Bool.{Bool, true, false, ◌||◌}
-use mathlib.Core.Option.{some}
+use Rattle.std.specs.Prelude.{Option, Some, None, Result, Ok, Err}
 use native.Mathlib.Omega.{arith}
 use lib.ListN.{length, drop, length-drop}
 use lib.Dec.{eqb}
@@ -19,13 +19,13 @@ use Rattle.items.proofs.Suffixes.{key-ends, params-ends}
 use Rattle.items.proofs.Bytes.{item_bytes, other-bytes, bare-bytes, item-bytes}
 use Rattle.dictionaries.specs.Dictionaries.{Value, Placed, Member, value_items, inner_turn, inner_of, closed_of, list_of, lone_of, bare_key, value_of, assigned_of, member_of, members}
 use Rattle.dictionaries.specs.Dictionaries.Value.{one, many}
-use Rattle.dictionaries.specs.Lookup.{last_value_in, last_found, value_in, found_in, onward, walk, items_from}
+use Rattle.dictionaries.specs.Lookup.{last_value_in, last_found, range_in, value_in, found_in, onward, walk, items_from}
 use Rattle.dictionaries.specs.Members.{IsNext}
 use Rattle.dictionaries.specs.declared.MemberAt.{MemberAt}
-use Rattle.dictionaries.specs.declared.MemberFound.{MemberFound}
-use Rattle.dictionaries.specs.declared.MemberFound.TheVariants as found
-use Rattle.dictionaries.specs.declared.NextMember.{NextMember}
-use Rattle.dictionaries.specs.declared.NextMember.TheVariants as answer
+use Rattle.dictionaries.specs.declared.ValueRange.{ValueRange}
+use Rattle.dictionaries.specs.declared.ValueRange.TheVariants as range
+use Rattle.dictionaries.specs.declared.MemberValue.{MemberValue}
+use Rattle.dictionaries.specs.declared.NotADictionary.{NotADictionary}
 use Rattle.dictionaries.proofs.Places.{found-last}
 use Rattle.dictionaries.proofs.Members.{next-member-low, next-member-high}
 use Rattle.dictionaries.proofs.NextMembers.{Stepped, step-member, stepped-value, stepped-says}
@@ -87,16 +87,19 @@ pub cursor-bytes : (s : List ℕ) (c : ℕ) → items_bytes (items_from s c) ≤
 cursor-bytes s c = omega (arith, walk-bytes (suc (length (drop c s))) (drop c s), length-drop c s)
 
 -- the last value of a key, where it is a list
-pub last-bytes : (s key : List ℕ) (xs : List Item) → last_value_in key (members s) ≡ some (some (many xs)) → items_bytes xs ≤ length s
+pub last-bytes : (s key : List ℕ) (xs : List Item) → last_value_in key (members s) ≡ Some (Some (many xs)) → items_bytes xs ≤ length s
 last-bytes s key xs e = go (last_found s key) (found-last s key ∙ e)
   where
-    go : (r : MemberFound) → found_in s r ≡ some (some (many xs)) → items_bytes xs ≤ length s
-    go found.NotADictionary f = clash (unfold found_in in cc)
-    go found.Absent f = clash (unfold found_in in cc)
-    go (found.Item m) f = clash (unfold found_in in cc)
-    go (found.List m) f =
-        let q : items_from s m.first ≡ xs = unfold found_in in cc in
-        omega (arith, ap items_bytes q, cursor-bytes s m.first)
+    stands : (v : ValueRange) → range_in s v ≡ many xs → items_bytes xs ≤ length s
+    stands = unfold range_in in (elim [
+      | range.Item x ↦ λ f. clash cc
+      | range.List first ↦ λ f. let q : items_from s first ≡ xs = cc in omega (arith, ap items_bytes q, cursor-bytes s first)
+    ])
+
+    go : (r : Result (Option MemberValue) NotADictionary) → found_in s r ≡ Some (Some (many xs)) → items_bytes xs ≤ length s
+    go (Err u) f = clash (unfold found_in in cc)
+    go (Ok None) f = clash (unfold found_in in cc)
+    go (Ok (Some v)) f = stands v.range (unfold found_in in cc)
 
 -- a reading that takes at least so many bytes
 record Takes {A : Type 0} (size : A → ℕ) (l : List ℕ) (g : Parsed A) : Type 0 where
@@ -188,7 +191,7 @@ pub member-bytes : (l : List ℕ) (m : Member) (n : List ℕ) → member_of l �
 member-bytes l m n e = (member-takes l).takes m n e
 
 -- and so they end before the next cursor
-pub next-bytes : (s : List ℕ) (c : ℕ) (r : NextMember) (f : MemberAt) → IsNext s c r → r ≡ answer.Member f → items_bytes (value_items (value_in s f.value)) + c ≤ f.next
+pub next-bytes : (s : List ℕ) (c : ℕ) (r : Result (Option MemberAt) NotADictionary) (f : MemberAt) → IsNext s c r → r ≡ Ok (Some f) → items_bytes (value_items (value_in s f.value)) + c ≤ f.next
 next-bytes s c r f h e =
     let y : Stepped s c f = step-member s c f (sym h.is ∙ e) in
     let v : value_in s f.value ≡ y.member.placed.value = ap (value_in s) (stepped-value s c f y) ∙ (stepped-says s c f y).0 in

@@ -1,6 +1,7 @@
 -- The items of an inner list one after the other: the turns that read it, and the answers at a cursor. Assumes nothing.
+use Rattle.std.specs.Prelude.{Option, Some, None}
 use mathlib.Core.Path.{◌≡◌, refl, ap, ◌∙◌, sym}
-use Prim.Native.Nat.{ℕ, zero, suc, ◌-◌, ◌<◌}
+use Prim.Native.Nat.{ℕ, zero, suc, ◌-◌, ◌^◌, ◌≤◌, ◌<◌, min}
 use mathlib.Core.List.{List, [], ◌∷◌, ◌++◌}
 use mathlib.Core.Bool.{Bool, true, false, ◌||◌}
 use native.Mathlib.Omega.{arith}
@@ -18,9 +19,7 @@ use Rattle.items.specs.declared.ItemFound.{ItemFound}
 use Rattle.items.proofs.Ranges.{item-range}
 use Rattle.items.proofs.Suffixes.{item-ends, item-shrinks}
 use Rattle.dictionaries.specs.Dictionaries.{inner_turn}
-use Rattle.dictionaries.specs.Lookup.{pointed_at, cursor_at, onward, walk, items_from, list_in}
-use Rattle.dictionaries.specs.declared.ListItem.{ListItem}
-use Rattle.dictionaries.specs.declared.ListItem.TheVariants as list
+use Rattle.dictionaries.specs.Lookup.{pointed_at, cursor_at, onward, walk, items_from, list_in, low_next, high_next}
 
 -- an item of a list takes at least a byte
 pub inner-shrinks : (l a : List ℕ) (xs : List Item) → inner_turn l ≡ more xs a → length a < length l
@@ -72,7 +71,7 @@ module _ (s : List ℕ) (c : ℕ) where
   unfolding here
   here_in = suffix_trans (suffix-drop c s) (suffix-past is_space (drop c s))
 
-  turn-found : (x : Item) (n : List ℕ) (f : ItemFound) → item_of here ≡ parsed x n → list.Item (record { range = item_range (length s - length here) x; next = length s - length n }) ≡ list.Item f → more (x ∷ []) n ≡ more (item_in s f.range ∷ []) (drop f.next s)
+  turn-found : (x : Item) (n : List ℕ) (f : ItemFound) → item_of here ≡ parsed x n → Some (record { range = item_range (length s - length here) x; next = length s - length n }) ≡ Some f → more (x ∷ []) n ≡ more (item_in s f.range ∷ []) (drop f.next s)
   turn-found x n f e u =
       let p : drop (length s - length here) s ≡ here = suffix-place here_in in
       let a : item_range (length s - length here) x ≡ f.range = cc in
@@ -83,29 +82,29 @@ module _ (s : List ℕ) (c : ℕ) where
       let z : n ≡ drop f.next s = sym g ∙ ap (λ (k : ℕ). drop k s) b in
       λ j. more (y j ∷ []) (z j)
 
-  pub cursor-step : (f : ItemFound) → cursor_at s c ≡ list.Item f → inner_turn (drop c s) ≡ more (item_in s f.range ∷ []) (drop f.next s)
+  pub cursor-step : (f : ItemFound) → cursor_at s c ≡ Some f → inner_turn (drop c s) ≡ more (item_in s f.range ∷ []) (drop f.next s)
   unfolding cursor_at inner_turn skip next here
   cursor-step f e = go (eqb (head_of here) 41) (item_of here) refl e
     where
-      parted : (t : Bool) (x : Item) (n : List ℕ) → item_of here ≡ parsed x n → pick t (list.Item (record { range = item_range (length s - length here) x; next = length s - length n })) list.End ≡ list.Item f → pick t (more (x ∷ []) n) fail ≡ more (item_in s f.range ∷ []) (drop f.next s)
+      parted : (t : Bool) (x : Item) (n : List ℕ) → item_of here ≡ parsed x n → pick t (Some (record { range = item_range (length s - length here) x; next = length s - length n })) None ≡ Some f → pick t (more (x ∷ []) n) fail ≡ more (item_in s f.range ∷ []) (drop f.next s)
       parted = unfold pick in (elim [ true ↦ λ x n h u. turn-found x n f h u | false ↦ λ x n h u. clash cc ])
 
-      go : (b : Bool) (g : Parsed Item) → item_of here ≡ g → pick b list.End (pointed_at s here g) ≡ list.Item f → pick b (done [] (drop 1 here)) (going g (λ x n. pick (eqb (head_of n) 32 || eqb (head_of n) 41) (more (x ∷ []) n) fail)) ≡ more (item_in s f.range ∷ []) (drop f.next s)
+      go : (b : Bool) (g : Parsed Item) → item_of here ≡ g → pick b None (pointed_at s here g) ≡ Some f → pick b (done [] (drop 1 here)) (going g (λ x n. pick (eqb (head_of n) 32 || eqb (head_of n) 41) (more (x ∷ []) n) fail)) ≡ more (item_in s f.range ∷ []) (drop f.next s)
       go = unfold pick going pointed_at in (elim [ true ↦ λ g h u. clash cc | false ↦ elim [ parsed x n ↦ λ h u. parted (eqb (head_of n) 32 || eqb (head_of n) 41) x n h u | malformed ↦ λ h u. clash cc ] ])
 
-  pub cursor-stop : (r : List ℕ → List Item) → cursor_at s c ≡ list.End → onward (inner_turn (drop c s)) r ≡ []
+  pub cursor-stop : (r : List ℕ → List Item) → cursor_at s c ≡ None → onward (inner_turn (drop c s)) r ≡ []
   unfolding cursor_at inner_turn skip next here
   cursor-stop r e = go (eqb (head_of here) 41) (item_of here) e
     where
-      parted : (t : Bool) (x : Item) (n : List ℕ) (fd : ItemFound) → pick t (list.Item fd) list.End ≡ list.End → onward (pick t (more (x ∷ []) n) fail) r ≡ []
+      parted : (t : Bool) (x : Item) (n : List ℕ) (fd : ItemFound) → pick t (Some fd) None ≡ None → onward (pick t (more (x ∷ []) n) fail) r ≡ []
       parted = unfold pick onward in (elim [ true ↦ λ x n fd u. clash cc | false ↦ λ x n fd u. refl ])
 
-      go : (b : Bool) (g : Parsed Item) → pick b list.End (pointed_at s here g) ≡ list.End → onward (pick b (done [] (drop 1 here)) (going g (λ x n. pick (eqb (head_of n) 32 || eqb (head_of n) 41) (more (x ∷ []) n) fail))) r ≡ []
+      go : (b : Bool) (g : Parsed Item) → pick b None (pointed_at s here g) ≡ None → onward (pick b (done [] (drop 1 here)) (going g (λ x n. pick (eqb (head_of n) 32 || eqb (head_of n) 41) (more (x ∷ []) n) fail))) r ≡ []
       go = unfold pick going pointed_at onward in (elim [ true ↦ λ g u. refl | false ↦ elim [ parsed x n ↦ λ u. parted (eqb (head_of n) 32 || eqb (head_of n) 41) x n (record { range = item_range (length s - length here) x; next = length s - length n }) u | malformed ↦ λ u. refl ] ])
 
 -- the items of a list in order, by the cursor: the answer there is the first item from there on, and the next cursor has the others
-module _ (s : List ℕ) (c : ℕ) (r : ListItem) (is : r ≡ cursor_at s c) where
-  pub items-item : (f : ItemFound) → r ≡ list.Item f → items_from s c ≡ item_in s f.range ∷ items_from s f.next
+module _ (s : List ℕ) (c : ℕ) (r : Option ItemFound) (is : r ≡ cursor_at s c) where
+  pub items-item : (f : ItemFound) → r ≡ Some f → items_from s c ≡ item_in s f.range ∷ items_from s f.next
   unfolding walk onward
   items-item f e =
       let t : inner_turn (drop c s) ≡ more (item_in s f.range ∷ []) (drop f.next s) = cursor-step s c f (sym is ∙ e) in
@@ -113,12 +112,24 @@ module _ (s : List ℕ) (c : ℕ) (r : ListItem) (is : r ≡ cursor_at s c) wher
       rw t (ap (λ (z : List Item). item_in s f.range ∷ z) (walk-enough (length (drop c s)) (suc (length (drop f.next s))) (drop f.next s) h (omega arith)))
 
   -- at the end none is left
-  pub items-end : r ≡ list.End → items_from s c ≡ []
+  pub items-end : r ≡ None → items_from s c ≡ []
   unfolding walk
   items-end e = cursor-stop s c (λ m. walk (length (drop c s)) m) (sym is ∙ e)
 
 -- so the answer says the items from the cursor on
-pub items-said : (s : List ℕ) (c : ℕ) (r : ListItem) → r ≡ cursor_at s c → list_in s r ≡ items_from s c
+pub items-said : (s : List ℕ) (c : ℕ) (r : Option ItemFound) → r ≡ cursor_at s c → list_in s r ≡ items_from s c
 unfolding list_in
-items-said s c (list.Item f) is = sym (items-item s c (list.Item f) is f refl)
-items-said s c list.End is = sym (items-end s c list.End is refl)
+items-said s c (Some f) is = sym (items-item s c (Some f) is f refl)
+items-said s c None is = sym (items-end s c None is refl)
+
+-- the next cursor, for `omega`
+pub next_low : (r : Option ItemFound) (f : ItemFound) → r ≡ Some f → low_next r ≡ f.next
+next_low r f e = rw e
+
+pub next-high : (r : Option ItemFound) (f : ItemFound) → r ≡ Some f → high_next r ≡ f.next
+next-high r f e = rw e
+
+-- what is read past a cursor's spaces ends past the cursor
+pub past-cursor : (c i n : ℕ) (r : Option ItemFound) → c < 2 ^ 64 → min c n ≤ i → i < low_next r → high_next r ≤ n → c < low_next r
+past-cursor c i n (Some f) k h a b = omega arith
+past-cursor c i n None k h a b = k

@@ -3,7 +3,7 @@ use mathlib.Core.Path.{◌≡◌, refl, ap, ◌∙◌}
 use Prim.Native.Nat.{ℕ, zero, suc}
 use mathlib.Core.List.{List, [], ◌∷◌, ◌++◌}
 use mathlib.Core.Bool.{Bool, true, false}
-use mathlib.Core.Option.{Option, some, none}
+use Rattle.std.specs.Prelude.{Option, Some, None}
 use Rattle.ascii.proofs.Clash.{clash}
 use lib.ListN.{length, drop}
 use lib.Dec.{eqb}
@@ -91,8 +91,8 @@ read-keyed s = go (is_empty (past is_space s))
     go = unfold pick in (elim [ true ↦ (λ v. unfold into plains in refl) | false ↦ turns-keyed (suc (length (past is_space s))) (past is_space s) ])
 
 -- so no member has the empty key
-pub no-empty-key : (s : List ℕ) (v : Value) → last_value_in [] (members s) ≡ some (some v) → ⊥
+pub no-empty-key : (s : List ℕ) (v : Value) → last_value_in [] (members s) ≡ Some (Some v) → ⊥
 no-empty-key s v = go (read_all s) (read-keyed s)
   where
-    go : (g : Parsed (List Member)) → AllKeyed g → last_value_in [] (plainly (data_of g)) ≡ some (some v) → ⊥
-    go = unfold last_value_in plainly data_of in (elim [ parsed ms m ↦ λ h e. (let k : into (later []) none (plains ms) ≡ none = h none in clash cc) | malformed ↦ λ h e. clash cc ])
+    go : (g : Parsed (List Member)) → AllKeyed g → last_value_in [] (plainly (data_of g)) ≡ Some (Some v) → ⊥
+    go = unfold last_value_in plainly data_of in (elim [ parsed ms m ↦ λ h e. (let k : into (later []) None (plains ms) ≡ None = h None in clash cc) | malformed ↦ λ h e. clash cc ])

@@ -3,7 +3,7 @@ use mathlib.Core.Path.{◌≡◌, refl}
 use Prim.Native.Nat.{ℕ, zero, suc, ◌+◌, ◌≤◌}
 use mathlib.Core.List.{List, [], ◌∷◌, ◌++◌}
 use mathlib.Core.Bool.{Bool, true, false}
-use mathlib.Core.Option.{some, none}
+use Rattle.std.specs.Prelude.{Some, None}
 use native.Mathlib.Omega.{arith}
 use lib.ListN.{length, drop, length-drop}
 use lib.Dec.{eqb}
@@ -104,12 +104,12 @@ unfolding plain_bytes plains members_bytes
 plains-bytes [] = refl
 plains-bytes (m ∷ ms) = omega (arith, plains-bytes ms)
 
-pub members-bytes : (s : List ℕ) (ms : List Plain) → members s ≡ some ms → plain_bytes ms ≤ length s
+pub members-bytes : (s : List ℕ) (ms : List Plain) → members s ≡ Some ms → plain_bytes ms ≤ length s
 members-bytes s ms e = go (read_all s) refl (read-bytes s)
   where
     go : (g : Parsed (List Member)) → read_all s ≡ g → AllBytes s g → plain_bytes ms ≤ length s
     go (parsed xs m) k w =
-        let q : plainly (data_of (read_all s)) ≡ some (plains xs) = unfold plainly data_of in (rw k refl) in
+        let q : plainly (data_of (read_all s)) ≡ Some (plains xs) = unfold plainly data_of in (rw k refl) in
         let z : ms ≡ plains xs = cc in
         rw z (omega (arith, plains-bytes xs))
-    go malformed k w = let q : plainly (data_of (read_all s)) ≡ none = unfold plainly data_of in (rw k refl) in let z : ◌≡◌ {A = ℕ} 0 1 = cc in absurd (omega arith)
+    go malformed k w = let q : plainly (data_of (read_all s)) ≡ None = unfold plainly data_of in (rw k refl) in let z : ◌≡◌ {A = ℕ} 0 1 = cc in absurd (omega arith)

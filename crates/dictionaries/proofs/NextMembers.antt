@@ -3,7 +3,7 @@ use mathlib.Core.Path.{◌≡◌, refl, ap, ◌∙◌, sym}
 use Prim.Native.Nat.{ℕ, zero, suc, ◌-◌, ◌≤◌, ◌<◌}
 use mathlib.Core.List.{List, [], ◌∷◌, ◌++◌}
 use mathlib.Core.Bool.{Bool, true, false, ◌||◌}
-use mathlib.Core.Option.{Option, some, none}
+use Rattle.std.specs.Prelude.{Option, Some, None, Result, Ok, Err}
 use native.Mathlib.Omega.{arith}
 use lib.ListN.{length, drop}
 use lib.Dec.{eqb}
@@ -18,11 +18,10 @@ use Rattle.ascii.proofs.Suffixes.{Suffix, suffix_trans, suffix-past, suffix-drop
 use Rattle.items.specs.Items.{key_of}
 use Rattle.items.proofs.Ranges.{Took, key-took, part-took}
 use Rattle.dictionaries.specs.Dictionaries.{Placed, Member, Plain, assigned_of, member_of, parted_of, parted_by, dict_turn, read_all, data_of, dictionary, plain, plains, plainly}
-use Rattle.dictionaries.specs.Lookup.{placed_at, value_in}
+use Rattle.dictionaries.specs.Lookup.{placed_at, refused, value_in}
 use Rattle.dictionaries.specs.Members.{members_from, with_first, member_in, next_in, member_at, parted_at, read_at, next_at}
 use Rattle.dictionaries.specs.declared.MemberAt.{MemberAt}
-use Rattle.dictionaries.specs.declared.NextMember.{NextMember}
-use Rattle.dictionaries.specs.declared.NextMember.TheVariants as answer
+use Rattle.dictionaries.specs.declared.NotADictionary.{NotADictionary}
 use Rattle.dictionaries.proofs.Suffixes.{member-ends, parted-ends}
 use Rattle.dictionaries.proofs.Places.{Says, member-says}
 use Rattle.dictionaries.proofs.Members.{at_next, at_key, at_value}
@@ -79,12 +78,12 @@ module _ (l : List ℕ) where
   unfolding parted_of skip next
   parted-done u o e = go (past is_blank l) (is_empty (past is_blank l)) refl (eqb (head_of (past is_blank l)) 44) (is_empty (past is_blank (drop 1 (past is_blank l)))) e
     where
-      none : (m : List ℕ) → is_empty m ≡ true → m ≡ []
-      none = unfold is_empty in (elim [ [] ↦ λ f. refl | x ∷ xs ↦ λ f. clash cc ])
+      no_bytes : (m : List ℕ) → is_empty m ≡ true → m ≡ []
+      no_bytes = unfold is_empty in (elim [ [] ↦ λ f. refl | x ∷ xs ↦ λ f. clash cc ])
 
       go : (m : List ℕ) (a : Bool) → is_empty m ≡ a → (b c : Bool) → pick a (done (tt ∷ []) m) (pick b (pick c fail (more (tt ∷ []) (past is_blank (drop 1 m)))) fail) ≡ done u o → o ≡ []
       go = unfold pick in (λ m. elim [
-        | true ↦ λ f b c w. let d : m ≡ o = cc in sym d ∙ none m f
+        | true ↦ λ f b c w. let d : m ≡ o = cc in sym d ∙ no_bytes m f
         | false ↦ λ f. elim [ true ↦ elim [ true ↦ λ w. clash cc | false ↦ λ w. clash cc ] | false ↦ λ c w. clash cc ]
       ])
 
@@ -122,11 +121,11 @@ read-full : (l : List ℕ) → is_empty (past is_space l) ≡ false → read_all
 unfolding read_all skip pick
 read-full l e = rw e
 
-read-empty : (l : List ℕ) → is_empty (past is_space l) ≡ true → dictionary l ≡ some []
+read-empty : (l : List ℕ) → is_empty (past is_space l) ≡ true → dictionary l ≡ Some []
 unfolding read_all skip pick data_of
 read-empty l e = rw e
 
-no-members : dictionary [] ≡ some []
+no-members : dictionary [] ≡ Some []
 no-members = read-empty [] (unfold past is_empty in refl)
 
 -- one step at a cursor: the member that is read there, and the dictionary that is left
@@ -175,15 +174,15 @@ module _ (s : List ℕ) (c : ℕ) where
     unfolding with_member on_step
     read_more u o e = ap data_of (rw e at read_is) ∙ data-first m (turns dict_turn (length start) o)
 
-    read-last : (u : List (Unit {0})) (o : List ℕ) → parted_by n ≡ done u o → dictionary (drop c s) ≡ with_first m (some [])
+    read-last : (u : List (Unit {0})) (o : List ℕ) → parted_by n ≡ done u o → dictionary (drop c s) ≡ with_first m (Some [])
     unfolding with_member on_step data_of with_first
     read-last u o e = ap data_of (rw e at read_is)
 
-    read-fail : parted_by n ≡ fail → dictionary (drop c s) ≡ none
+    read-fail : parted_by n ≡ fail → dictionary (drop c s) ≡ None
     unfolding with_member on_step data_of
     read-fail e = ap data_of (rw e at read_is)
 
-    step-parted : (f : MemberAt) (st : Step (Unit {0})) → parted_by n ≡ st → parted_at s m st ≡ answer.Member f → Stepped s c f
+    step-parted : (f : MemberAt) (st : Step (Unit {0})) → parted_by n ≡ st → parted_at s m st ≡ Ok (Some f) → Stepped s c f
     unfolding parted_at
     step-parted f (more u o) e w =
         let y : Follows n o = parted-more n u o e in
@@ -194,54 +193,54 @@ module _ (s : List ℕ) (c : ℕ) where
         (read_more u o e ∙ ap (λ (z : Parsed (List Member)). with_first m (data_of z)) (dict-enough (length start) (suc (length o)) o h (omega arith) ∙ sym d))
     step-parted f (done u o) e w =
         let x : member_at s m (length s - length o) ≡ f = cc in
-        let z : dictionary o ≡ some [] = ap dictionary (parted-done n u o e) ∙ no-members in
+        let z : dictionary o ≡ Some [] = ap dictionary (parted-done n u o e) ∙ no-members in
         stepped f o ((parted-ends tt n).stops u o e) x (read-last u o e ∙ ap (with_first m) (sym z))
     step-parted f fail e w = clash cc
 
-    fail-parted : (st : Step (Unit {0})) → parted_by n ≡ st → parted_at s m st ≡ answer.NotADictionary → dictionary (drop c s) ≡ none
+    fail-parted : (st : Step (Unit {0})) → parted_by n ≡ st → parted_at s m st ≡ refused (Option MemberAt) → dictionary (drop c s) ≡ None
     unfolding parted_at
     fail-parted (more u o) e w = clash cc
     fail-parted (done u o) e w = clash cc
     fail-parted fail e w = read-fail e
 
-    end-parted : (st : Step (Unit {0})) → parted_at s m st ≡ answer.End → ⊥
+    end-parted : (st : Step (Unit {0})) → parted_at s m st ≡ Ok None → ⊥
     unfolding parted_at
     end-parted (more u o) w = clash cc
     end-parted (done u o) w = clash cc
     end-parted fail w = clash cc
 
   -- each answer, and the members from there on
-  pub step-member : (f : MemberAt) → next_at s c ≡ answer.Member f → Stepped s c f
+  pub step-member : (f : MemberAt) → next_at s c ≡ Ok (Some f) → Stepped s c f
   unfolding next_at skip
   step-member f e = go (is_empty (past is_space (drop c s))) refl e
     where
-      inside : is_empty (past is_space (drop c s)) ≡ false → (g : Parsed Member) → member_of (past is_space (drop c s)) ≡ g → read_at s g ≡ answer.Member f → Stepped s c f
+      inside : is_empty (past is_space (drop c s)) ≡ false → (g : Parsed Member) → member_of (past is_space (drop c s)) ≡ g → read_at s g ≡ Ok (Some f) → Stepped s c f
       inside = unfold read_at start in (λ h. elim [ parsed m n ↦ λ r w. step-parted h m n r f (parted_by n) refl w | malformed ↦ λ r w. clash cc ])
 
-      go : (b : Bool) → is_empty (past is_space (drop c s)) ≡ b → pick b answer.End (read_at s (member_of (past is_space (drop c s)))) ≡ answer.Member f → Stepped s c f
+      go : (b : Bool) → is_empty (past is_space (drop c s)) ≡ b → pick b (Ok None) (read_at s (member_of (past is_space (drop c s)))) ≡ Ok (Some f) → Stepped s c f
       go = unfold pick in (elim [ true ↦ λ h w. clash cc | false ↦ λ h w. inside h (member_of (past is_space (drop c s))) refl w ])
 
-  pub step_end : next_at s c ≡ answer.End → dictionary (drop c s) ≡ some []
+  pub step_end : next_at s c ≡ Ok None → dictionary (drop c s) ≡ Some []
   unfolding next_at skip
   step_end e = go (is_empty (past is_space (drop c s))) refl e
     where
-      inside : is_empty (past is_space (drop c s)) ≡ false → (g : Parsed Member) → member_of (past is_space (drop c s)) ≡ g → read_at s g ≡ answer.End → ⊥
+      inside : is_empty (past is_space (drop c s)) ≡ false → (g : Parsed Member) → member_of (past is_space (drop c s)) ≡ g → read_at s g ≡ Ok None → ⊥
       inside = unfold read_at start in (λ h. elim [ parsed m n ↦ λ r w. end-parted h m n r (parted_by n) w | malformed ↦ λ r w. clash cc ])
 
-      go : (b : Bool) → is_empty (past is_space (drop c s)) ≡ b → pick b answer.End (read_at s (member_of (past is_space (drop c s)))) ≡ answer.End → dictionary (drop c s) ≡ some []
+      go : (b : Bool) → is_empty (past is_space (drop c s)) ≡ b → pick b (Ok None) (read_at s (member_of (past is_space (drop c s)))) ≡ Ok None → dictionary (drop c s) ≡ Some []
       go = unfold pick in (elim [ true ↦ λ h w. read-empty (drop c s) h | false ↦ λ h w. absurd (inside h (member_of (past is_space (drop c s))) refl w) ])
 
-  pub step-malformed : next_at s c ≡ answer.NotADictionary → dictionary (drop c s) ≡ none
+  pub step-malformed : next_at s c ≡ refused (Option MemberAt) → dictionary (drop c s) ≡ None
   unfolding next_at skip
   step-malformed e = go (is_empty (past is_space (drop c s))) refl e
     where
-      unread : is_empty (past is_space (drop c s)) ≡ false → member_of (past is_space (drop c s)) ≡ malformed → dictionary (drop c s) ≡ none
+      unread : is_empty (past is_space (drop c s)) ≡ false → member_of (past is_space (drop c s)) ≡ malformed → dictionary (drop c s) ≡ None
       unread h r = ap data_of (read-full (drop c s) h) ∙ (unfold turns dict_turn going on_step data_of in (rw r))
 
-      inside : is_empty (past is_space (drop c s)) ≡ false → (g : Parsed Member) → member_of (past is_space (drop c s)) ≡ g → read_at s g ≡ answer.NotADictionary → dictionary (drop c s) ≡ none
+      inside : is_empty (past is_space (drop c s)) ≡ false → (g : Parsed Member) → member_of (past is_space (drop c s)) ≡ g → read_at s g ≡ refused (Option MemberAt) → dictionary (drop c s) ≡ None
       inside = unfold read_at start in (λ h. elim [ parsed m n ↦ λ r w. fail-parted h m n r (parted_by n) refl w | malformed ↦ λ r w. unread h r ])
 
-      go : (b : Bool) → is_empty (past is_space (drop c s)) ≡ b → pick b answer.End (read_at s (member_of (past is_space (drop c s)))) ≡ answer.NotADictionary → dictionary (drop c s) ≡ none
+      go : (b : Bool) → is_empty (past is_space (drop c s)) ≡ b → pick b (Ok None) (read_at s (member_of (past is_space (drop c s)))) ≡ refused (Option MemberAt) → dictionary (drop c s) ≡ None
       go = unfold pick in (elim [ true ↦ λ h w. clash cc | false ↦ λ h w. inside h (member_of (past is_space (drop c s))) refl w ])
 
 -- the key of a member that was read stood at the front
@@ -285,13 +284,13 @@ module _ (s : List ℕ) (c : ℕ) (f : MemberAt) (h : Stepped s c f) where
 -- an answer says the members from its cursor on
 plain-first : (m : Member) (d : Option (List Member)) → plainly (with_first m d) ≡ with_first (plain m) (plainly d)
 unfolding plainly plains with_first
-plain-first m (some ms) = refl
-plain-first m none = refl
+plain-first m (Some ms) = refl
+plain-first m None = refl
 
-pub next-said : (s : List ℕ) (c : ℕ) (r : NextMember) → r ≡ next_at s c → next_in s r ≡ members_from s c
+pub next-said : (s : List ℕ) (c : ℕ) (r : Result (Option MemberAt) NotADictionary) → r ≡ next_at s c → next_in s r ≡ members_from s c
 unfolding next_in
-next-said s c (answer.Member f) e =
+next-said s c (Ok (Some f)) e =
     let h : Stepped s c f = step-member s c f (sym e) in
     sym (ap plainly h.all ∙ (plain-first h.member (dictionary (drop f.next s)) ∙ ap (λ (z : Plain). with_first z (members_from s f.next)) (stepped-plain s c f h)))
-next-said s c answer.End e = sym (ap plainly (step_end s c (sym e)) ∙ (unfold plainly plains in refl))
-next-said s c answer.NotADictionary e = sym (ap plainly (step-malformed s c (sym e)) ∙ (unfold plainly in refl))
+next-said s c (Ok None) e = sym (ap plainly (step_end s c (sym e)) ∙ (unfold plainly plains in refl))
+next-said s c (Err u) e = sym (ap plainly (step-malformed s c (sym e)) ∙ (unfold plainly in refl))

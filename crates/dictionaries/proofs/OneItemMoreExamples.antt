@@ -2,7 +2,7 @@
 use mathlib.Core.Path.{◌≡◌, refl, ap, ◌∙◌, sym}
 use Prim.Native.Nat.{ℕ, suc, ◌+◌}
 use mathlib.Core.List.{List, [], ◌∷◌, ◌++◌}
-use mathlib.Core.Option.{Option, some, none}
+use Rattle.std.specs.Prelude.{Option, Some, None}
 use native.Mathlib.Omega.{arith}
 use lib.ListN.{length, length-append}
 use Rattle.ascii.proofs.Clash.{clash}
@@ -28,12 +28,12 @@ items_of [] = 0
 items_of (m ∷ ms) = item_count m.value + items_of ms
 
 unfoldable keys_held : Option (List Plain) → List (List ℕ)
-keys_held (some ms) = keys_of ms
-keys_held none = []
+keys_held (Some ms) = keys_of ms
+keys_held None = []
 
 unfoldable items_held : Option (List Plain) → ℕ
-items_held (some ms) = items_of ms
-items_held none = 0
+items_held (Some ms) = items_of ms
+items_held None = 0
 
 keys-same : (before behind : List Plain) (k : List ℕ) (v w : Value) → keys_of (before ++ (record { key = k; value = v } ∷ behind)) ≡ keys_of (before ++ (record { key = k; value = w } ∷ behind))
 unfolding keys_of
@@ -173,4 +173,4 @@ key-renamed o = let e : ◌≡◌ {A = List (List ℕ)} ((text "a") ∷ []) ((te
 -- a header that is not a dictionary: `a=(b)` and `a=(b,c)`
 not-read : OneItemMore (text "a=(b)") (text "a=(b,c)") → ⊥
 unfolding computing
-not-read o = let e : none ≡ some _ = o.second in clash cc
+not-read o = let e : None ≡ Some _ = o.second in clash cc

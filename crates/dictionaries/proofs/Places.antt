@@ -3,7 +3,7 @@ use mathlib.Core.Path.{◌≡◌, refl, ap, ◌∙◌}
 use Prim.Native.Nat.{ℕ, zero, suc, ◌-◌}
 use mathlib.Core.List.{List, [], ◌∷◌, ◌++◌}
 use mathlib.Core.Bool.{Bool, true, false}
-use mathlib.Core.Option.{Option, some, none}
+use Rattle.std.specs.Prelude.{Option, Some, None, Result, Ok, Err}
 use native.Mathlib.Omega.{arith}
 use lib.ListN.{length, drop}
 use lib.Dec.{eqb}
@@ -22,9 +22,9 @@ use Rattle.items.proofs.Ranges.{bare-range, other-range}
 use Rattle.items.proofs.Suffixes.{key-ends, bare_ends, params-ends}
 use Rattle.dictionaries.specs.Dictionaries.{Value, Placed, Member, inner_turn, inner_of, closed_of, list_of, lone_of, bare_key, value_of, assigned_of, member_of, parted_of, dict_turn, read_all, data_of, dictionary, plains, plainly, members}
 use Rattle.dictionaries.specs.Dictionaries.Value.{one, many}
-use Rattle.dictionaries.specs.Lookup.{into, latest, last_in, later, last_value_in, parameters_of, last_parameters_in, value_at, placed_at, found_of, answer_of, last_found, items_from, value_in, parameters_in, found_in, found_parameters_in}
-use Rattle.dictionaries.specs.declared.MemberFound.{MemberFound}
-use Rattle.dictionaries.specs.declared.MemberFound.TheVariants as found
+use Rattle.dictionaries.specs.Lookup.{into, latest, last_in, later, last_value_in, parameters_of, last_parameters_in, range_at, placed_at, answer_of, last_found, items_from, range_in, value_in, parameters_in, found_in, found_parameters_in}
+use Rattle.dictionaries.specs.declared.MemberValue.{MemberValue}
+use Rattle.dictionaries.specs.declared.NotADictionary.{NotADictionary}
 use Rattle.dictionaries.proofs.Suffixes.{inner-turn-ends, dict-turn-ends}
 use Rattle.dictionaries.proofs.InnerLists.{walk-turns}
 
@@ -44,8 +44,8 @@ says : (s : List ℕ) (p : Placed) → Stands s p.value p.start → Closes s p �
 unfolding placed_at
 says s p h c = (go p.value h, c)
   where
-    go : (v : Value) → Stands s v p.start → value_in s (value_at s p v) ≡ v
-    go = unfold value_in value_at in (elim [ one x ↦ λ e. ap one e | many xs ↦ λ e. ap many e ])
+    go : (v : Value) → Stands s v p.start → range_in s (range_at (length s - p.start) v) ≡ v
+    go = unfold range_in range_at in (elim [ one x ↦ λ e. ap one e | many xs ↦ λ e. ap many e ])
 
 -- what is read from an end of a text says what stands there
 record Good (s : List ℕ) (g : Parsed Placed) : Type 0 where
@@ -105,11 +105,10 @@ module _ (s : List ℕ) where
       go = unfold after in (elim [ parsed k o ↦ λ a u. named k (assigned_of o) (assigned-good o (suffix_trans h ((key-ends l).ends k o a))) u | malformed ↦ λ a u. clash cc ])
 
 -- the parameters of an answer are read from the start of their range up to its end
-abbrev pub ParametersEnd : List ℕ → MemberFound → Type 0
-ParametersEnd s (found.Item m) = rest_of (params_of (drop m.params.from s)) ≡ some (drop m.params.to s)
-ParametersEnd s (found.List m) = rest_of (params_of (drop m.params.from s)) ≡ some (drop m.params.to s)
-ParametersEnd s found.Absent = Unit {0}
-ParametersEnd s found.NotADictionary = Unit {0}
+abbrev pub ParametersEnd : List ℕ → Result (Option MemberValue) NotADictionary → Type 0
+ParametersEnd s (Ok (Some v)) = rest_of (params_of (drop v.params.from s)) ≡ Some (drop v.params.to s)
+ParametersEnd s (Ok None) = Unit {0}
+ParametersEnd s (Err e) = Unit {0}
 
 -- all members of a list say what stands there
 abbrev pub AllSay : List ℕ → List Member → Type 0
@@ -161,40 +160,27 @@ module _ (s : List ℕ) where
 
   -- the last member of a key
   abbrev LastSays : Option Member → Type 0
-  LastSays (some m) = Says s m.placed
-  LastSays none = Unit {0}
+  LastSays (Some m) = Says s m.placed
+  LastSays None = Unit {0}
 
   abbrev value_held : Option Member → Option Value
-  value_held (some m) = some m.placed.value
-  value_held none = none
+  value_held (Some m) = Some m.placed.value
+  value_held None = None
 
-  placed-found : (p : Placed) (v : Value) → found_in s (found_of (value_at s p v)) ≡ some (some (value_in s (value_at s p v)))
-  unfolding found_in value_in value_at
-  placed-found p (one x) = refl
-  placed-found p (many xs) = refl
+  answer-value : (o : Option Member) → LastSays o → found_in s (answer_of s (Some o)) ≡ Some (value_held o)
+  unfolding answer_of found_in
+  answer-value (Some m) h = ap (λ (z : Value). Some (Some z)) h.0
+  answer-value None h = refl
 
-  placed-parameters : (p : Placed) (v : Value) → found_parameters_in s (found_of (value_at s p v)) ≡ some (parameters_in s (record { from = length s - p.params_from; to = length s - p.params_to }))
-  unfolding found_parameters_in value_at
-  placed-parameters p (one x) = refl
-  placed-parameters p (many xs) = refl
+  answer-parameters : (o : Option Member) → LastSays o → found_parameters_in s (answer_of s (Some o)) ≡ Some (parameters_of o)
+  unfolding answer_of placed_at parameters_of found_parameters_in parameters_in data_of
+  answer-parameters (Some m) h = rw h.1
+  answer-parameters None h = refl
 
-  answer-value : (o : Option Member) → LastSays o → found_in s (answer_of s (some o)) ≡ some (value_held o)
-  unfolding answer_of placed_at
-  answer-value (some m) h = placed-found m.placed m.placed.value ∙ ap (λ (z : Value). some (some z)) h.0
-  answer-value none h = unfold found_in in refl
-
-  answer-parameters : (o : Option Member) → LastSays o → found_parameters_in s (answer_of s (some o)) ≡ some (parameters_of o)
-  unfolding answer_of placed_at parameters_of
-  answer-parameters (some m) h = placed-parameters m.placed m.placed.value ∙ unfold parameters_in data_of in (rw h.1)
-  answer-parameters none h = unfold found_parameters_in in refl
-
-  answer-ends : (o : Option Member) → LastSays o → ParametersEnd s (answer_of s (some o))
-  unfolding answer_of placed_at
-  answer-ends (some m) h = go m.placed.value h.1
-    where
-      go : (v : Value) → Closes s m.placed → ParametersEnd s (found_of (value_at s m.placed v))
-      go = unfold value_at rest_of in (elim [ one x ↦ λ c. rw c | many xs ↦ λ c. rw c ])
-  answer-ends none h = tt
+  answer-ends : (o : Option Member) → LastSays o → ParametersEnd s (answer_of s (Some o))
+  unfolding answer_of placed_at rest_of
+  answer-ends (Some m) h = rw h.1
+  answer-ends None h = tt
 
   module _ (key : List ℕ) where
     last_says : (ms : List Member) → AllSay s ms → (b : Option Member) → LastSays b → LastSays (into (latest key) b ms)
@@ -202,7 +188,7 @@ module _ (s : List ℕ) where
     last_says [] a b h = h
     last_says (m ∷ ms) a b h = last_says ms a.1 (latest key b m) (go (same_bytes m.key key))
       where
-        go : (t : Bool) → LastSays (pick t (some m) b)
+        go : (t : Bool) → LastSays (pick t (Some m) b)
         go = unfold pick in (elim [ true ↦ a.0 | false ↦ h ])
 
     last-value : (ms : List Member) (b : Option Member) → value_held (into (latest key) b ms) ≡ into (later key) (value_held b) (plains ms)
@@ -210,23 +196,23 @@ module _ (s : List ℕ) where
     last-value [] b = refl
     last-value (m ∷ ms) b = last-value ms (latest key b m) ∙ ap (λ (z : Option Value). into (later key) z (plains ms)) (go (same_bytes m.key key))
       where
-        go : (t : Bool) → value_held (pick t (some m) b) ≡ pick t (some m.placed.value) (value_held b)
+        go : (t : Bool) → value_held (pick t (Some m) b) ≡ pick t (Some m.placed.value) (value_held b)
         go = unfold pick in (elim [ true ↦ refl | false ↦ refl ])
 
     pub found-last : found_in s (last_found s key) ≡ last_value_in key (members s)
     found-last = go (read_all s) read-says
       where
         go : (g : Parsed (List Member)) → ParsedSays g → found_in s (answer_of s (last_in key (data_of g))) ≡ last_value_in key (plainly (data_of g))
-        go = unfold data_of last_in plainly last_value_in in (elim [ parsed ms l ↦ λ a. answer-value (into (latest key) none ms) (last_says ms a none tt) ∙ ap some (last-value ms none) | malformed ↦ λ a. (unfold found_in answer_of in refl) ])
+        go = unfold data_of last_in plainly last_value_in in (elim [ parsed ms l ↦ λ a. answer-value (into (latest key) None ms) (last_says ms a None tt) ∙ ap Some (last-value ms None) | malformed ↦ λ a. (unfold found_in answer_of in refl) ])
 
     pub found-parameters : found_parameters_in s (last_found s key) ≡ last_parameters_in key (dictionary s)
     found-parameters = go (read_all s) read-says
       where
         go : (g : Parsed (List Member)) → ParsedSays g → found_parameters_in s (answer_of s (last_in key (data_of g))) ≡ last_parameters_in key (data_of g)
-        go = unfold data_of last_in last_parameters_in in (elim [ parsed ms l ↦ λ a. answer-parameters (into (latest key) none ms) (last_says ms a none tt) | malformed ↦ λ a. (unfold found_parameters_in answer_of in refl) ])
+        go = unfold data_of last_in last_parameters_in in (elim [ parsed ms l ↦ λ a. answer-parameters (into (latest key) None ms) (last_says ms a None tt) | malformed ↦ λ a. (unfold found_parameters_in answer_of in refl) ])
 
     pub found-ends : ParametersEnd s (last_found s key)
     found-ends = go (read_all s) read-says
       where
         go : (g : Parsed (List Member)) → ParsedSays g → ParametersEnd s (answer_of s (last_in key (data_of g)))
-        go = unfold data_of last_in in (elim [ parsed ms l ↦ λ a. answer-ends (into (latest key) none ms) (last_says ms a none tt) | malformed ↦ λ a. (unfold answer_of in tt) ])
+        go = unfold data_of last_in in (elim [ parsed ms l ↦ λ a. answer-ends (into (latest key) None ms) (last_says ms a None tt) | malformed ↦ λ a. (unfold answer_of in tt) ])

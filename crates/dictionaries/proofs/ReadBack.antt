@@ -3,7 +3,7 @@ use mathlib.Core.Path.{◌≡◌, refl}
 use Prim.Native.Nat.{ℕ, zero, suc, ◌≤◌, ◌<◌}
 use mathlib.Core.List.{List, [], ◌∷◌, ◌++◌, map, append_assoc}
 use mathlib.Core.Bool.{true, false, ◌||◌}
-use mathlib.Core.Option.{some}
+use Rattle.std.specs.Prelude.{Some}
 use native.Mathlib.Omega.{arith}
 use lib.ListN.{length, length-append, length-map}
 use lib.Dec.{eqb}
@@ -167,7 +167,7 @@ dict-turns m [] (suc n) g a h = simp (dict-last m g)
 dict-turns m (k ∷ ms) (suc n) g (and h a) u = simp (dict-more m k (following_members ms) g h, dict-turns k ms n h a (omega arith))
 
 -- what is written is a dictionary, with its members at these places
-written-placed : (ms : List Plain) → AllGood ms → dictionary (written ms) ≡ some (placed_all ms)
+written-placed : (ms : List Plain) → AllGood ms → dictionary (written ms) ≡ Some (placed_all ms)
 unfolding written joined_by placed_all read_all data_of skip past pick is_empty
 written-placed [] a = refl
 written-placed (m ∷ ms) (and g a) =
@@ -187,6 +187,6 @@ placed-plain [] = refl
 placed-plain (m ∷ ms) = simp (placed-value m.value (following_members ms), placed-plain ms)
 
 -- members that are written are read back
-pub written_back : (ms : List Plain) → AllGood ms → members (written ms) ≡ some ms
+pub written_back : (ms : List Plain) → AllGood ms → members (written ms) ≡ Some ms
 unfolding plainly
 written_back ms a = rw (written-placed ms a, placed-plain ms)

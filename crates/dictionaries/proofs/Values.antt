@@ -1,7 +1,8 @@
 -- Values and members by their places. Assumes nothing.
+use Rattle.std.specs.Prelude.{Option, Some, None}
 use mathlib.Core.Path.{◌≡◌, refl, ap, ◌∙◌, sym}
-use Prim.Native.Nat.{ℕ, ◌+◌, ◌-◌, ◌≤◌, ◌<◌, min}
-use mathlib.Core.List.{List}
+use Prim.Native.Nat.{ℕ, ◌+◌, ◌-◌, ◌≤◌, ◌<◌}
+use mathlib.Core.List.{List, [], ◌∷◌}
 use mathlib.Core.Bool.{Bool, true, false, ◌||◌}
 use native.Mathlib.Omega.{arith}
 use lib.ListN.{length, drop, length-drop}
@@ -9,153 +10,98 @@ use lib.Seq.{drop-drop}
 use lib.Dec.{eqb}
 use borrow.Author.Tests.{eq-eqb, ne_eqb}
 use Rattle.ascii.specs.Bytes.{pick, is_space}
-use Rattle.ascii.specs.Reading.{Parsed, head_of, is_empty, past, skip, next, after}
+use Rattle.ascii.specs.Reading.{Parsed, Step, head_of, is_empty, past, skip, next, after, going}
 use Rattle.ascii.specs.Reading.Parsed.{parsed, malformed}
-use Rattle.ascii.specs.Places.{rest_of, left_at, low, high}
-use Rattle.ascii.specs.declared.Read.{Read}
-use Rattle.ascii.specs.declared.Read.TheVariants as read
+use Rattle.ascii.specs.Reading.Step.{more, done, fail}
+use Rattle.ascii.specs.declared.Turn.TheVariants as turn
+use Rattle.ascii.proofs.Clash.{clash}
+use Rattle.ascii.specs.Places.{rest_of, left_at, went_of, went_at, high}
 use Rattle.ascii.proofs.Reading.{empty-yes, empty-no}
-use Rattle.items.specs.Items.{Item, Parameter, bare_of, params_of, item_of}
+use Rattle.items.specs.Items.{Item, Parameter, params_of, item_of}
 use Rattle.items.specs.Items.Item.{other}
 use Rattle.items.specs.Found.{item_range, item_found}
 use Rattle.items.specs.Found as f
 use Rattle.items.specs.declared.ItemKind.TheVariants as kind
 use Rattle.items.specs.declared.ItemFound.{ItemFound}
-use Rattle.items.specs.declared.ItemRead.{ItemRead}
-use Rattle.items.specs.declared.ItemRead.TheVariants as item
-use Rattle.items.proofs.Ranges.{left-at, left-none, left-parsed, left_not, none-parsed, past-item, other_at, found-is}
-use Rattle.dictionaries.specs.Dictionaries.{Value, Placed, inner_of, closed_of, list_of, lone_of, bare_key}
+use Rattle.items.proofs.Ranges.{place-left, left-at, left-none, left-parsed, left_not, none-parsed, other_at, found-is}
+use Rattle.dictionaries.specs.Dictionaries.{Value, Placed, inner_turn, closed_of}
 use Rattle.dictionaries.specs.Dictionaries.Value.{one, many}
-use Rattle.dictionaries.specs.Lookup.{value_at, placed_at, pointed_at, cursor_at}
-use Rattle.dictionaries.specs.Steps.{value_found, end_of}
-use Rattle.dictionaries.specs.declared.MemberItem.{MemberItem}
-use Rattle.dictionaries.specs.declared.MemberList.{MemberList}
+use Rattle.dictionaries.specs.Lookup.{range_at, placed_at, pointed_at, cursor_at}
+use Rattle.dictionaries.specs.Steps.{value_found, parted_rest}
+use Rattle.dictionaries.specs.declared.ValueRange.{ValueRange}
+use Rattle.dictionaries.specs.declared.ValueRange.TheVariants as range
 use Rattle.dictionaries.specs.declared.MemberValue.{MemberValue}
-use Rattle.dictionaries.specs.declared.MemberValue.TheVariants as value
-use Rattle.dictionaries.specs.declared.ValueRead.{ValueRead}
-use Rattle.dictionaries.specs.declared.ValueRead.TheVariants as value_read
-use Rattle.dictionaries.specs.declared.ListItem.TheVariants as list
+use Rattle.dictionaries.proofs.InnerLists.{cursor-step}
 
 place_of : (s : List ℕ) (i : ℕ) → i ≤ length s → length s - length (drop i s) ≡ i
 place_of s i h = omega (arith, length-drop i s)
 
 -- a value and the parameters past it
-module _ (s l : List ℕ) (q : ℕ) (p : Read) (is : left_at s p ≡ rest_of (params_of (drop q s))) where
-  module _ (n : ℕ) (at : p ≡ read.At n) (high-p : high p ≤ length s) (high-q : q ≤ length s) where
-    closed_at : (v : Value) (w : MemberValue) → ((ps : List Parameter) (k : ℕ) → length s - k ≡ n → w ≡ value_at s (record { value = v; parameters = ps; start = length l; params_from = length (drop q s); params_to = k }) v) → (g : Parsed (List Parameter)) → left_at s (read.At n) ≡ rest_of g → value_read.Found w ≡ value_found s (after g (λ ps m. parsed (record { value = v; parameters = ps; start = length l; params_from = length (drop q s); params_to = length m }) m))
-    unfolding after value_found placed_at
-    closed_at v w h (parsed ps m) e = ap value_read.Found (h ps (length m) (omega (arith, ap high at, sym (length-drop n s) ∙ ap length (left-parsed s m n ps e))))
-    closed_at v w h malformed e = absurd (left_not (List Parameter) s n e)
-
-    one_at : (x : Item) (ps : List Parameter) (k : ℕ) → length s - k ≡ n → value.Item (record { item = item_range (length s - length l) x; params = record { from = q; to = n } }) ≡ value_at s (record { value = one x; parameters = ps; start = length l; params_from = length (drop q s); params_to = k }) (one x)
-    unfolding value_at
-    one_at x ps k e = λ j. value.Item (record { item = item_range (length s - length l) x; params = record { from = sym (place_of s q high-q) j; to = sym e j } })
-
-    many-at : (xs : List Item) (ps : List Parameter) (k : ℕ) → length s - k ≡ n → value.List (record { first = length s - length l; params = record { from = q; to = n } }) ≡ value_at s (record { value = many xs; parameters = ps; start = length l; params_from = length (drop q s); params_to = k }) (many xs)
-    unfolding value_at
-    many-at xs ps k e = λ j. value.List (record { first = length s - length l; params = record { from = sym (place_of s q high-q) j; to = sym e j } })
-
-    pub closed-one : (x : Item) → value_read.Found (value.Item (record { item = item_range (length s - length l) x; params = record { from = q; to = n } })) ≡ value_found s (closed_of (one x) l (drop q s))
-    unfolding closed_of
-    closed-one x = closed_at (one x) _ (one_at x) (params_of (drop q s)) (left-at s p n _ at is)
-
-    pub closed-many : (xs : List Item) → value_read.Found (value.List (record { first = length s - length l; params = record { from = q; to = n } })) ≡ value_found s (closed_of (many xs) l (drop q s))
-    unfolding closed_of
-    closed-many xs = closed_at (many xs) _ (many-at xs) (params_of (drop q s)) (left-at s p n _ at is)
-
-  pub closed_none : (v : Value) → p ≡ read.Malformed → value_read.Malformed ≡ value_found s (closed_of v l (drop q s))
+module _ (s : List ℕ) (q : ℕ) (p : Option ℕ) (is : left_at s p ≡ rest_of (params_of (drop q s))) where
+  pub closed-some : (n : ℕ) → p ≡ Some n → high p ≤ length s → q ≤ length s → (at : ValueRange) (v : Value) (l : List ℕ) → at ≡ range_at (length s - length l) v → Some (record { range = at; params = record { from = q; to = n } }) ≡ value_found s (closed_of v l (drop q s))
   unfolding closed_of
-  closed_none v at = go (params_of (drop q s)) (left-none s p _ at is)
+  closed-some n e h k at v l w = go (params_of (drop q s)) (left-at s p n _ e is)
     where
-      go : (g : Parsed (List Parameter)) → left_at s read.Malformed ≡ rest_of g → value_read.Malformed ≡ value_found s (after g (λ ps m. parsed (record { value = v; parameters = ps; start = length l; params_from = length (drop q s); params_to = length m }) m))
-      go = unfold after value_found in (elim [ parsed ps m ↦ λ e. absurd (none-parsed s m ps e) | malformed ↦ λ e. refl ])
+      go : (g : Parsed (List Parameter)) → left_at s (Some n) ≡ rest_of g → Some (record { range = at; params = record { from = q; to = n } }) ≡ value_found s (after g (λ ps m. parsed (record { value = v; parameters = ps; start = length l; params_from = length (drop q s); params_to = length m }) m))
+      go = unfold after value_found placed_at in (elim [
+        | parsed ps m ↦ λ d.
+            let a : q ≡ length s - length (drop q s) = sym (place_of s q k) in
+            let b : n ≡ length s - length m = place-left s m n (omega (arith, ap high e)) (left-parsed s m n ps d) in
+            λ j. Some (record { range = w j; params = record { from = a j; to = b j } })
+        | malformed ↦ λ d. absurd (left_not (List Parameter) s n d)
+      ])
 
--- a list
-module _ (s : List ℕ) (i : ℕ) (h : i ≤ length s) (r : Read) (is : left_at s r ≡ rest_of (inner_of (drop i s))) where
-  module _ (q : ℕ) (at : r ≡ read.At q) (high-r : high r ≤ length s) (p : Read) (ps : left_at s p ≡ rest_of (params_of (drop q s))) where
-    pub list-found : (n : ℕ) → p ≡ read.At n → high p ≤ length s → value_read.Found (value.List (record { first = i; params = record { from = q; to = n } })) ≡ value_found s (list_of (drop i s))
-    unfolding list_of
-    list-found n e g = go (inner_of (drop i s)) (left-at s r q _ at is)
-      where
-        go : (k : Parsed (List Item)) → left_at s (read.At q) ≡ rest_of k → value_read.Found (value.List (record { first = i; params = record { from = q; to = n } })) ≡ value_found s (after k (λ xs m. closed_of (many xs) (drop i s) m))
-        go = unfold after in (elim [
-          | parsed xs m ↦ λ v.
-              let d : drop q s ≡ m = left-parsed s m q xs v in
-              (λ j. value_read.Found (value.List (record { first = sym (place_of s i h) j; params = record { from = q; to = n } }))) ∙ (closed-many s (drop i s) q p ps n e g (omega (arith, ap high at)) xs ∙ ap (λ (z : List ℕ). value_found s (closed_of (many xs) (drop i s) z)) d)
-          | malformed ↦ λ v. absurd (left_not (List Item) s q v)
-        ])
-
-    pub list-unread : p ≡ read.Malformed → value_read.Malformed ≡ value_found s (list_of (drop i s))
-    unfolding list_of
-    list-unread e = go (inner_of (drop i s)) (left-at s r q _ at is)
-      where
-        go : (k : Parsed (List Item)) → left_at s (read.At q) ≡ rest_of k → value_read.Malformed ≡ value_found s (after k (λ xs m. closed_of (many xs) (drop i s) m))
-        go = unfold after in (elim [ parsed xs m ↦ λ v. closed_none s (drop i s) q p ps (many xs) e ∙ ap (λ (z : List ℕ). value_found s (closed_of (many xs) (drop i s) z)) (left-parsed s m q xs v) | malformed ↦ λ v. absurd (left_not (List Item) s q v) ])
-
-  pub list-none : r ≡ read.Malformed → value_read.Malformed ≡ value_found s (list_of (drop i s))
-  unfolding list_of
-  list-none e = go (inner_of (drop i s)) (left-none s r _ e is)
+  pub closed-none : p ≡ None → (v : Value) (l : List ℕ) → None ≡ value_found s (closed_of v l (drop q s))
+  unfolding closed_of
+  closed-none e v l = go (params_of (drop q s)) (left-none s p _ e is)
     where
-      go : (k : Parsed (List Item)) → left_at s read.Malformed ≡ rest_of k → value_read.Malformed ≡ value_found s (after k (λ xs m. closed_of (many xs) (drop i s) m))
-      go = unfold after value_found in (elim [ parsed xs m ↦ λ v. absurd (none-parsed s m xs v) | malformed ↦ λ v. refl ])
+      go : (g : Parsed (List Parameter)) → left_at s None ≡ rest_of g → None ≡ value_found s (after g (λ ps m. parsed (record { value = v; parameters = ps; start = length l; params_from = length (drop q s); params_to = length m }) m))
+      go = unfold after value_found in (elim [ parsed ps m ↦ λ d. absurd (none-parsed s m ps d) | malformed ↦ λ d. refl ])
 
-pub ruleset lists = (list-found, list-unread, list-none)
+-- what is left past a value is what is left past its parameters
+pub rest-closed : (R : Option (List ℕ)) (v : Value) (l m : List ℕ) → R ≡ rest_of (params_of m) → R ≡ rest_of (closed_of v l m)
+unfolding closed_of after rest_of
+rest-closed R v l m e = go (params_of m) e
+  where
+    go : (g : Parsed (List Parameter)) → R ≡ rest_of g → R ≡ rest_of {A = Placed} (after g (λ ps n. parsed (record { value = v; parameters = ps; start = length l; params_from = length m; params_to = length n }) n))
+    go (parsed ps n) d = unfold after rest_of in d
+    go malformed d = unfold after rest_of in d
 
--- an item
-module _ (s : List ℕ) (i : ℕ) (h : i ≤ length s) (r : ItemRead) (is : r ≡ item_found s i (bare_of (drop i s))) (left : left_at s (f.end_of r) ≡ rest_of (bare_of (drop i s))) where
-  module _ (fd : ItemFound) (at : r ≡ item.Found fd) (high-r : high (f.end_of r) ≤ length s) (p : Read) (ps : left_at s p ≡ rest_of (params_of (drop fd.next s))) where
-    pub item-found : (n : ℕ) → p ≡ read.At n → high p ≤ length s → value_read.Found (value.Item (record { item = fd.range; params = record { from = fd.next; to = n } })) ≡ value_found s (lone_of (drop i s))
-    unfolding lone_of
-    item-found n e g = go (bare_of (drop i s)) (sym at ∙ is) (rw at at left)
-      where
-        within : fd.next ≤ length s
-        within = rw at at high-r
-
-        go : (k : Parsed Item) → item.Found fd ≡ item_found s i k → left_at s (read.At fd.next) ≡ rest_of k → value_read.Found (value.Item (record { item = fd.range; params = record { from = fd.next; to = n } })) ≡ value_found s (after k (λ x m. closed_of (one x) (drop i s) m))
-        go = unfold after in (elim [
-          | parsed x m ↦ λ u v.
-              let d : drop fd.next s ≡ m = left-parsed s m fd.next x v in
-              let w : fd.range ≡ item_range i x = ap (λ (z : ItemFound). z.range) (found-is s i fd x m u) in
-              let y : fd.range ≡ item_range (length s - length (drop i s)) x = w ∙ ap (λ (z : ℕ). item_range z x) (sym (place_of s i h)) in
-              (λ j. value_read.Found (value.Item (record { item = y j; params = record { from = fd.next; to = n } }))) ∙ (closed-one s (drop i s) fd.next p ps n e g within x ∙ ap (λ (z : List ℕ). value_found s (closed_of (one x) (drop i s) z)) d)
-          | malformed ↦ λ u v. absurd (left_not Item s fd.next v)
-        ])
-
-    pub item-unread : p ≡ read.Malformed → value_read.Malformed ≡ value_found s (lone_of (drop i s))
-    unfolding lone_of
-    item-unread e = go (bare_of (drop i s)) (rw at at left)
-      where
-        go : (k : Parsed Item) → left_at s (read.At fd.next) ≡ rest_of k → value_read.Malformed ≡ value_found s (after k (λ x m. closed_of (one x) (drop i s) m))
-        go = unfold after in (elim [ parsed x m ↦ λ v. closed_none s (drop i s) fd.next p ps (one x) e ∙ ap (λ (z : List ℕ). value_found s (closed_of (one x) (drop i s) z)) (left-parsed s m fd.next x v) | malformed ↦ λ v. absurd (left_not Item s fd.next v) ])
-
-  pub item-none : r ≡ item.Malformed → value_read.Malformed ≡ value_found s (lone_of (drop i s))
-  unfolding lone_of
-  item-none e = go (bare_of (drop i s)) (rw e at left)
+-- what follows a part that was read
+module _ {B : Type 0} (s : List ℕ) (a : Parsed B) (r : Option ℕ) (is : left_at s r ≡ rest_of a) (f : B → List ℕ → Parsed Placed) where
+  pub value-after : (R : Option MemberValue) (q : ℕ) → r ≡ Some q → ((x : B) → a ≡ parsed x (drop q s) → R ≡ value_found s (f x (drop q s))) → R ≡ value_found s (after a f)
+  value-after R q e h = go a refl (left-at s r q _ e is)
     where
-      go : (k : Parsed Item) → left_at s read.Malformed ≡ rest_of k → value_read.Malformed ≡ value_found s (after k (λ x m. closed_of (one x) (drop i s) m))
+      go : (g : Parsed B) → a ≡ g → left_at s (Some q) ≡ rest_of g → R ≡ value_found s (after g f)
+      go = unfold after in (elim [
+        | parsed x m ↦ λ u v. let d : drop q s ≡ m = left-parsed s m q x v in rw (← d) (h x (u ∙ ap (λ (z : List ℕ). parsed x z) (sym d)))
+        | malformed ↦ λ u v. absurd (left_not B s q v)
+      ])
+
+  pub value-unread : r ≡ None → None ≡ value_found s (after a f)
+  value-unread e = go a (left-none s r _ e is)
+    where
+      go : (g : Parsed B) → left_at s None ≡ rest_of g → None ≡ value_found s (after g f)
       go = unfold after value_found in (elim [ parsed x m ↦ λ v. absurd (none-parsed s m x v) | malformed ↦ λ v. refl ])
 
-pub ruleset lones = (item-found, item-unread, item-none)
+-- where a value stands that starts at a place
+module _ (s : List ℕ) (i : ℕ) (h : i ≤ length s) where
+  pub list-ranged : (xs : List Item) → range.List i ≡ range_at (length s - length (drop i s)) (many xs)
+  unfolding range_at
+  list-ranged xs = ap range.List (sym (place_of s i h))
 
--- a key alone
-module _ (s : List ℕ) (i : ℕ) (h : i ≤ length s) (p : Read) (ps : left_at s p ≡ rest_of (params_of (drop i s))) where
-  truth-at : (n : ℕ) → value_read.Found (value.Item (record { item = record { kind = kind.Other; from = i; to = i }; params = record { from = i; to = n } })) ≡ value_read.Found (value.Item (record { item = item_range (length s - length (drop i s)) other; params = record { from = i; to = n } }))
-  truth-at n =
-      let e : record { kind = kind.Other; from = i; to = i } ≡ item_range (length s - length (drop i s)) other = sym (other_at i) ∙ ap (λ (z : ℕ). item_range z other) (sym (place_of s i h)) in
-      λ j. value_read.Found (value.Item (record { item = e j; params = record { from = i; to = n } }))
+  pub item-ranged : (fd : ItemFound) (g : Parsed Item) (x : Item) (m : List ℕ) → Some fd ≡ item_found s i g → g ≡ parsed x m → range.Item fd.range ≡ range_at (length s - length (drop i s)) (one x)
+  unfolding range_at
+  item-ranged fd g x m u e =
+      let w : fd.range ≡ item_range i x = ap (λ (z : ItemFound). z.range) (found-is s i fd x m (rw e at u)) in
+      ap range.Item (w ∙ ap (λ (z : ℕ). item_range z x) (sym (place_of s i h)))
 
-  pub key-found : (n : ℕ) → p ≡ read.At n → high p ≤ length s → value_read.Found (value.Item (record { item = record { kind = kind.Other; from = i; to = i }; params = record { from = i; to = n } })) ≡ value_found s (bare_key (drop i s))
-  unfolding bare_key
-  key-found n e g = truth-at n ∙ closed-one s (drop i s) i p ps n e g h other
-
-  pub key-none : p ≡ read.Malformed → value_read.Malformed ≡ value_found s (bare_key (drop i s))
-  unfolding bare_key
-  key-none e = closed_none s (drop i s) i p ps (one other) e
-
-pub ruleset keys = (key-found, key-none)
+  pub truth-ranged : range.Item (record { kind = kind.Other; text = record { from = i; to = i } }) ≡ range_at (length s - length (drop i s)) (one other)
+  unfolding range_at
+  truth-ranged = ap range.Item (sym (other_at i) ∙ ap (λ (z : ℕ). item_range z other) (sym (place_of s i h)))
 
 -- a choice, and a byte that is consumed
-module _ (s : List ℕ) (R : ValueRead) where
+module _ (s : List ℕ) (R : Option MemberValue) where
   pub value-yes : (b : Bool) (x y : Parsed Placed) → b ≡ true → R ≡ value_found s x → R ≡ value_found s (pick b x y)
   unfolding pick
   value-yes b x y t e = rw t e
@@ -176,69 +122,89 @@ value-told-not a a' n e g = ne_eqb a n (λ z. g (e ∙ z))
 
 pub ruleset values = (value-yes, value-no, value-next, value-told, value-told-not)
 
--- parameters that start past an item end past its start
-pub from-item : (s : List ℕ) (i n : ℕ) (r : ItemRead) (fd : ItemFound) (p : Read) → i < low (f.end_of r) → high (f.end_of r) ≤ length s → r ≡ item.Found fd → min fd.next (length s) ≤ low p → p ≡ read.At n → i ≤ n
-from-item s i n r fd p a b e c d = let z : i < n = past-item s i n r fd p a b e c d in omega arith
+-- an item of an inner list
+module _ (s : List ℕ) (i : ℕ) (h : i ≤ length s) (r : Option ItemFound) (is : r ≡ item_found s i (item_of (drop i s))) (left : left_at s (f.end_of r) ≡ rest_of (item_of (drop i s))) where
+  pub inner-none : r ≡ None → None ≡ pointed_at s (drop i s) (item_of (drop i s))
+  inner-none at = go (item_of (drop i s)) (rw at at left)
+    where
+      go : (k : Parsed Item) → left_at s None ≡ rest_of k → None ≡ pointed_at s (drop i s) k
+      go = unfold pointed_at in (elim [ parsed y m ↦ λ v. absurd (none-parsed s m y v) | malformed ↦ λ v. refl ])
 
--- where a value ends
-pub end-item : (v : MemberValue) (m : MemberItem) → v ≡ value.Item m → m.params.to ≡ end_of v
-end-item v m e = rw e
+  module _ (fd : ItemFound) (at : r ≡ Some fd) (y : ℕ) (v : y ≡ head_of (drop fd.next s)) where
+    inner-found : (b : Bool) → eqb y 32 || eqb y 41 ≡ b → pick b (Some fd) None ≡ pointed_at s (drop i s) (item_of (drop i s))
+    inner-found b t = go (item_of (drop i s)) (sym at ∙ is) (rw at at left)
+      where
+        go : (k : Parsed Item) → Some fd ≡ item_found s i k → left_at s (Some fd.next) ≡ rest_of k → pick b (Some fd) None ≡ pointed_at s (drop i s) k
+        go = unfold pointed_at in (elim [
+          | parsed z m ↦ λ a d.
+              let w : drop fd.next s ≡ m = left-parsed s m fd.next z d in
+              let o : fd ≡ record { range = item_range i z; next = length s - length m } = found-is s i fd z m a in
+              let q : head_of m ≡ y = sym (v ∙ ap head_of w) in
+              rw (q, t, place_of s i h, o) refl
+          | malformed ↦ λ a d. absurd (left_not Item s fd.next d)
+        ])
 
-pub end_list : (v : MemberValue) (m : MemberList) → v ≡ value.List m → m.params.to ≡ end_of v
-end_list v m e = rw e
+    pub inner-follows : eqb y 32 || eqb y 41 ≡ true → Some fd ≡ pointed_at s (drop i s) (item_of (drop i s))
+    unfolding pick
+    inner-follows t = inner-found true t
 
--- an item at a cursor
-module _ (s : List ℕ) (c i x : ℕ) (e : drop i s ≡ past is_space (drop c s)) (h : i ≤ length s) (u : x ≡ head_of (drop i s)) where
-  pub cursor-end : x ≡ 41 → list.End ≡ cursor_at s c
+    pub inner-other : eqb y 32 || eqb y 41 ≡ false → None ≡ pointed_at s (drop i s) (item_of (drop i s))
+    unfolding pick
+    inner-other t = inner-found false t
+
+pub ruleset inners = (inner-none, inner-follows, inner-other)
+
+-- what is read at a cursor, past spaces
+module _ (s : List ℕ) (c i x : ℕ) (e : drop i s ≡ past is_space (drop c s)) (u : x ≡ head_of (drop i s)) where
+  pub cursor-end : x ≡ 41 → None ≡ cursor_at s c
   unfolding cursor_at skip pick
   cursor-end g = rw (← e, eq-eqb (head_of (drop i s)) 41 (sym u ∙ g))
 
-  cursor-item : (x ≡ 41 → ⊥) → pointed_at s (drop i s) (item_of (drop i s)) ≡ cursor_at s c
-  unfolding cursor_at skip pick
-  cursor-item g = rw (← e, ne_eqb (head_of (drop i s)) 41 (λ z. g (u ∙ z)))
+  module _ (g : x ≡ 41 → ⊥) (r : Option ItemFound) (is : r ≡ pointed_at s (drop i s) (item_of (drop i s))) where
+    pub cursor-item : r ≡ cursor_at s c
+    unfolding cursor_at skip pick
+    cursor-item = rw (← e, ne_eqb (head_of (drop i s)) 41 (λ z. g (u ∙ z))) is
 
-  module _ (g : x ≡ 41 → ⊥) (r : ItemRead) (is : r ≡ item_found s i (item_of (drop i s))) (left : left_at s (f.end_of r) ≡ rest_of (item_of (drop i s))) where
-    pub cursor-none : r ≡ item.Malformed → list.End ≡ cursor_at s c
-    cursor-none at = go (item_of (drop i s)) (rw at at left) ∙ cursor-item g
+    -- and the turn of the list there
+    pub turn-item : (f : ItemFound) → r ≡ Some f → went_at s (Some (turn.More f.next)) ≡ went_of (inner_turn (drop c s))
+    unfolding went_at went_of
+    turn-item f at = rw (cursor-step s c f (sym cursor-item ∙ at)) refl
+
+    pub turn-none : r ≡ None → went_at s None ≡ went_of (inner_turn (drop c s))
+    unfolding went_at went_of inner_turn skip pick
+    turn-none at = rw (← e, ne_eqb (head_of (drop i s)) 41 (λ z. g (u ∙ z))) (go (item_of (drop i s)) (sym at ∙ is))
       where
-        go : (k : Parsed Item) → left_at s read.Malformed ≡ rest_of k → list.End ≡ pointed_at s (drop i s) k
-        go = unfold pointed_at in (elim [ parsed y m ↦ λ v. absurd (none-parsed s m y v) | malformed ↦ λ v. refl ])
+        parted : (t : Bool) (y : Item) (n : List ℕ) (fd : ItemFound) → None ≡ pick t (Some fd) None → went_at s None ≡ went_of (pick t (more (y ∷ []) n) fail)
+        parted = unfold pick went_at went_of in (elim [ true ↦ λ y n fd w. clash cc | false ↦ λ y n fd w. refl ])
 
-    module _ (fd : ItemFound) (at : r ≡ item.Found fd) (y : ℕ) (v : y ≡ head_of (drop fd.next s)) where
-      cursor-found : (b : Bool) → eqb y 32 || eqb y 41 ≡ b → pick b (list.Item fd) list.End ≡ cursor_at s c
-      cursor-found b t = go (item_of (drop i s)) (sym at ∙ is) (rw at at left) ∙ cursor-item g
-        where
-          go : (k : Parsed Item) → item.Found fd ≡ item_found s i k → left_at s (read.At fd.next) ≡ rest_of k → pick b (list.Item fd) list.End ≡ pointed_at s (drop i s) k
-          go = unfold pointed_at in (elim [
-            | parsed z m ↦ λ a d.
-                let w : drop fd.next s ≡ m = left-parsed s m fd.next z d in
-                let o : fd ≡ record { range = item_range i z; next = length s - length m } = found-is s i fd z m a in
-                let q : head_of m ≡ y = sym (v ∙ ap head_of w) in
-                rw (q, t, place_of s i h, o) refl
-            | malformed ↦ λ a d. absurd (left_not Item s fd.next d)
-          ])
+        go : (k : Parsed Item) → None ≡ pointed_at s (drop i s) k → went_at s None ≡ went_of (going k (λ y n. pick (eqb (head_of n) 32 || eqb (head_of n) 41) (more (y ∷ []) n) fail))
+        go = unfold pointed_at going in (elim [ parsed y n ↦ λ w. parted (eqb (head_of n) 32 || eqb (head_of n) 41) y n _ w | malformed ↦ λ w. (unfold went_at went_of in refl) ])
 
-      pub cursor-space : y ≡ 32 → list.Item fd ≡ cursor_at s c
-      unfolding pick
-      cursor-space t = cursor-found true (rw (eq-eqb y 32 t))
+pub ruleset cursors = (cursor-end, cursor-item)
 
-      pub cursor-close : (y ≡ 32 → ⊥) → y ≡ 41 → list.Item fd ≡ cursor_at s c
-      unfolding pick
-      cursor-close n t = cursor-found true (rw (ne_eqb y 32 n, eq-eqb y 41 t))
+-- what parts a member from the next, by the turn that it is
+module _ (s : List ℕ) (st : Step (Unit {0})) where
+  pub parted-more : (q : ℕ) → went_at s (Some (turn.More q)) ≡ went_of st → left_at s (Some q) ≡ parted_rest st
+  parted-more q = go st
+    where
+      go : (k : Step (Unit {0})) → went_at s (Some (turn.More q)) ≡ went_of k → left_at s (Some q) ≡ parted_rest k
+      go = unfold went_at went_of left_at parted_rest in (elim [ more a l ↦ λ e. cc | done a l ↦ λ e. clash cc | fail ↦ λ e. clash cc ])
 
-      pub cursor-other : (y ≡ 32 → ⊥) → (y ≡ 41 → ⊥) → list.End ≡ cursor_at s c
-      unfolding pick
-      cursor-other n t = cursor-found false (rw (ne_eqb y 32 n, ne_eqb y 41 t))
+  pub parted-done : (q : ℕ) → went_at s (Some (turn.Done q)) ≡ went_of st → left_at s (Some q) ≡ parted_rest st
+  parted-done q = go st
+    where
+      go : (k : Step (Unit {0})) → went_at s (Some (turn.Done q)) ≡ went_of k → left_at s (Some q) ≡ parted_rest k
+      go = unfold went_at went_of left_at parted_rest in (elim [ more a l ↦ λ e. clash cc | done a l ↦ λ e. cc | fail ↦ λ e. clash cc ])
 
-pub ruleset cursors = (cursor-end, cursor-none, cursor-space, cursor-close, cursor-other)
+  pub parted-none : went_at s None ≡ went_of st → left_at s None ≡ parted_rest st
+  parted-none = go st
+    where
+      go : (k : Step (Unit {0})) → went_at s None ≡ went_of k → left_at s None ≡ parted_rest k
+      go = unfold went_at went_of left_at parted_rest in (elim [ more a l ↦ λ e. clash cc | done a l ↦ λ e. clash cc | fail ↦ λ e. refl ])
 
 -- what stands past a member, by the place past the blanks
-pub past_end : (s : List ℕ) (e : ℕ) → length s < e + 1 → is_empty (drop e s) ≡ true
-past_end s e h = empty-yes s e (omega arith)
+pub past_end : (s : List ℕ) (e : ℕ) → length s ≤ e → is_empty (drop e s) ≡ true
+past_end s e h = empty-yes s e h
 
-pub past_more : (s : List ℕ) (e : ℕ) → e + 1 ≤ length s → is_empty (drop e s) ≡ false
-past_more s e h = empty-no s e (omega arith)
-
--- parameters that start past a list end past its start
-pub from_list : (s : List ℕ) (i n q : ℕ) (r p : Read) → i ≤ length s → min i (length s) ≤ low r → high r ≤ length s → r ≡ read.At q → min q (length s) ≤ low p → p ≡ read.At n → i ≤ n
-from_list s i n q r p z a b e c d = omega (arith, ap low e, ap high e, ap low d)
+pub past_more : (s : List ℕ) (e : ℕ) → e < length s → is_empty (drop e s) ≡ false
+past_more s e h = empty-no s e h

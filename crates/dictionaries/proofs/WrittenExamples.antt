@@ -1,7 +1,7 @@
 -- Examples of what is written and read back. Assumes nothing.
 use mathlib.Core.Path.{◌≡◌, refl}
 use mathlib.Core.List.{List, [], ◌∷◌}
-use mathlib.Core.Option.{some, none}
+use Rattle.std.specs.Prelude.{Some, None}
 use Rattle.ascii.proofs.Clash.{clash}
 use Rattle.ascii.specs.Literals.{text}
 use Rattle.items.specs.Items.Item.{token, string, other}
@@ -17,7 +17,7 @@ none_written : written [] ≡ []
 unfolding computing
 none_written = refl
 
-none-back : members [] ≡ some []
+none-back : members [] ≡ Some []
 unfolding computing
 none-back = written_back [] empty
 
@@ -52,7 +52,7 @@ three-good =
     (and (record { key = record { starts = refl; bytes = refl }; value = any-good })
     (and (record { key = record { starts = refl; bytes = refl }; value = and self-good empty }) empty))
 
-three_back : members (text "camera=(self \"https://b.example\"), forms=*, usb=(self)") ≡ some three
+three_back : members (text "camera=(self \"https://b.example\"), forms=*, usb=(self)") ≡ Some three
 three_back = rw three-written at (written_back three three-good)
 
 -- empty lists, an empty string, and a repeated key: `a=(), *=(""), a=b`
@@ -67,7 +67,7 @@ small-written : written small ≡ text "a=(), *=(\"\"), a=b"
 unfolding computing
 small-written = refl
 
-small-back : members (written small) ≡ some small
+small-back : members (written small) ≡ Some small
 unfolding computing
 small-back =
     written_back small
@@ -96,6 +96,6 @@ no_other : GoodItem other → ⊥
 no_other g = g
 
 -- a string with a quote inside is not read back: `a=("b"c")`
-quote-not-back : members (written (record { key = text "a"; value = many (string (text "b\"c") ∷ []) } ∷ [])) ≡ none
+quote-not-back : members (written (record { key = text "a"; value = many (string (text "b\"c") ∷ []) } ∷ [])) ≡ None
 unfolding computing
 quote-not-back = refl

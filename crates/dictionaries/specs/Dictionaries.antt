@@ -1,6 +1,6 @@
 -- RFC 8941 section 4.2: inner lists, members and dictionaries, read from the front of a text.
 use Rattle.std.specs.Prelude.{ℕ, List, [], ◌∷◌, ◌||◌, length, eqb}
-use Rattle.std.proofs.Math.Option.{Option, some, none}
+use Rattle.std.specs.Prelude.{Option, Some, None}
 use Rattle.ascii.specs.Bytes.{pick, is_space, is_blank}
 use Rattle.ascii.specs.Reading.{Parsed, Step, head_of, is_empty, next, skip, after, mapped, going, turns_of}
 use Rattle.ascii.specs.Reading.Parsed.{parsed, malformed}
@@ -96,8 +96,8 @@ unfoldable pub read_all : List ℕ → Parsed (List Member)
 read_all s = skip is_space s (λ l. pick (is_empty l) (parsed [] l) (turns_of dict_turn l))
 
 unfoldable pub data_of : {A : Type 0} → Parsed A → Option A
-data_of (parsed a l) = some a
-data_of malformed = none
+data_of (parsed a l) = Some a
+data_of malformed = None
 
 -- the members of a text in order, repeated keys kept, each with its parameters and places; none where it is not a dictionary
 abbrev pub dictionary : List ℕ → Option (List Member)
@@ -116,8 +116,8 @@ plains [] = []
 plains (m ∷ ms) = plain m ∷ plains ms
 
 unfoldable pub plainly : Option (List Member) → Option (List Plain)
-plainly (some ms) = some (plains ms)
-plainly none = none
+plainly (Some ms) = Some (plains ms)
+plainly None = None
 
 -- the members of a text in order, repeated keys kept; none where it is not a dictionary
 abbrev pub members : List ℕ → Option (List Plain)

@@ -1,6 +1,6 @@
 -- 01, "What demand 3 speaks of": the added item.
 use Rattle.std.specs.Prelude.{ℕ, ◌≡◌, List, ◌∷◌, ◌++◌}
-use Rattle.std.proofs.Math.Option.{some}
+use Rattle.std.specs.Prelude.{Some}
 use Rattle.items.specs.Items.{Item}
 use Rattle.dictionaries.specs.Dictionaries.{Plain, members}
 use Rattle.dictionaries.specs.Dictionaries.Value.{many}
@@ -17,5 +17,5 @@ pub record OneItemMore (s t : List ℕ) : Type 0 where
   pub front : List Item
   pub back : List Item
   pub item : Item
-  pub first : members s ≡ some (before ++ (record { key = key; value = many (front ++ back) } ∷ behind))
-  pub second : members t ≡ some (before ++ (record { key = key; value = many (front ++ (item ∷ back)) } ∷ behind))
+  pub first : members s ≡ Some (before ++ (record { key = key; value = many (front ++ back) } ∷ behind))
+  pub second : members t ≡ Some (before ++ (record { key = key; value = many (front ++ (item ∷ back)) } ∷ behind))

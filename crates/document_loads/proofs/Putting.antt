@@ -1,4 +1,5 @@
 -- What the functions that write a slot leave, in the terms of the code. Assumes nothing.
+use Rattle.std.specs.Prelude.{Result, Ok, Err}
 use mathlib.Core.Path.{◌≡◌, refl, ap, sym, ◌∙◌}
 use Prim.Native.Nat.{ℕ, ◌+◌, ◌*◌, ◌≤◌}
 use mathlib.Core.List.{List, [], ◌∷◌, ◌++◌}
@@ -17,8 +18,8 @@ use Rattle.declarations.specs.Declarations.{is_malformed}
 use Rattle.settled.specs.Settled.{head_bytes}
 use Rattle.settling.specs.Writing.{settled_bytes}
 use Rattle.settling.specs.Promises.{IsSettled, answer_of, Answer}
-use Rattle.settling.specs.declared.Settled.{Settled}
-use Rattle.settling.specs.declared.Settled.TheVariants as settled
+use Rattle.settling.specs.declared.SettleError.{SettleError}
+use Rattle.settling.specs.declared.SettleError.TheVariants as error
 use Rattle.settling.specs.declared.SettledHeader.{SettledHeader}
 use Rattle.decisions.specs.Masks.{mask_of}
 use Rattle.decisions.specs.Policies.{question_in, enabled_mask}
@@ -58,8 +59,8 @@ five-put s s1 s2 s3 s4 s5 d m e5 e4 e3 e2 e1 em =
 
 -- ---- the front
 
-pub fronted : (s s1 s2 s3 : List ℕ) (d : NewDocument) (n m : ℕ) → s3 ≡ with_text s2 own_text_place (take m d.text) → s2 ≡ with_text s1 above_place (take (4 * n) d.above) → s1 ≡ with_text s depth_place (number_bytes (numbers_of d)) → n ≡ d.depth → m ≡ d.length → s3 ≡ front_put s d
-fronted s s1 s2 s3 d n m e f g en em = rw (e, f, g, en, em) refl
+pub fronted : (s s1 s2 s3 : List ℕ) (d : NewDocument) → s3 ≡ with_text s2 own_text_place (take d.length d.text) → s2 ≡ with_text s1 above_place (take (4 * d.depth) d.above) → s1 ≡ with_text s depth_place (number_bytes (numbers_of d)) → s3 ≡ front_put s d
+fronted s s1 s2 s3 d e f g = rw (e, f, g) refl
 
 -- ---- the header
 
@@ -86,7 +87,7 @@ header_is h le = header-within h (le-leb (length h) text_bytes le)
 put_back : (l : List ℕ) (p k : ℕ) → take p l ++ (take k (drop p l) ++ drop k (drop p l)) ≡ l
 put_back l p k = ap (λ (m : List ℕ). take p l ++ m) (take-append-drop k (drop p l)) ∙ take-append-drop p l
 
-module _ (slot h after : List ℕ) (r : Settled) (room : slot_bytes ≤ length slot) (is : IsSettled h (take settled_limit (drop settled_place slot)) after r) where
+module _ (slot h after : List ℕ) (r : Result SettledHeader SettleError) (room : slot_bytes ≤ length slot) (is : IsSettled h (take settled_limit (drop settled_place slot)) after r) where
   part-long : length (take settled_limit (drop settled_place slot)) ≡ settled_limit
   part-long = rw (length-take, length-drop) (omega arith)
 
@@ -100,7 +101,7 @@ module _ (slot h after : List ℕ) (r : Settled) (room : slot_bytes ≤ length s
   refuses : leb (length h) text_bytes ≡ false → answer_of r ≡ Answer.too_long
   refuses e = is.which ∙ settled-over (ltb text_bytes (length h)) (ltb (length (take settled_limit (drop settled_place slot))) (head_bytes + length h)) (lt-ltb text_bytes (length h) (leb-false (length h) text_bytes e))
 
-  pub header-put : (f : SettledHeader) → r ≡ settled.Header f → PutsHeader slot h (take settled_place slot ++ (after ++ drop settled_limit (drop settled_place slot))) f.malformed
+  pub header-put : (f : SettledHeader) → r ≡ Ok f → PutsHeader slot h (take settled_place slot ++ (after ++ drop settled_limit (drop settled_place slot))) f.malformed
   header-put f e = go (leb (length h) text_bytes) refl
     where
       go : (b : Bool) → leb (length h) text_bytes ≡ b → PutsHeader slot h (take settled_place slot ++ (after ++ drop settled_limit (drop settled_place slot))) f.malformed
@@ -121,7 +122,7 @@ module _ (slot h after : List ℕ) (r : Settled) (room : slot_bytes ≤ length s
             malformed = g.malformed ∙ sym w.1;
           }
 
-  pub header-long : r ≡ settled.TooLong → PutsHeader slot h (take settled_place slot ++ (after ++ drop settled_limit (drop settled_place slot))) true
+  header-long : r ≡ Err error.TooLong → PutsHeader slot h (take settled_place slot ++ (after ++ drop settled_limit (drop settled_place slot))) true
   header-long e = go (leb (length h) text_bytes) refl
     where
       go : (b : Bool) → leb (length h) text_bytes ≡ b → PutsHeader slot h (take settled_place slot ++ (after ++ drop settled_limit (drop settled_place slot))) true
@@ -130,17 +131,21 @@ module _ (slot h after : List ℕ) (r : Settled) (room : slot_bytes ≤ length s
           let w = header-over h t in
           let size : length (header_bytes h) ≡ 0 = ap length w.0 in
           record {
-            is = ap (λ (m : List ℕ). take settled_place slot ++ (m ++ drop settled_limit (drop settled_place slot))) (is.too_long e) ∙ (put_back slot settled_place settled_limit ∙ (sym (put-nothing slot settled_place) ∙ ap (with_text slot settled_place) (sym w.0)));
+            is = ap (λ (m : List ℕ). take settled_place slot ++ (m ++ drop settled_limit (drop settled_place slot))) (is.refused error.TooLong e) ∙ (put_back slot settled_place settled_limit ∙ (sym (put-nothing slot settled_place) ∙ ap (with_text slot settled_place) (sym w.0)));
             short = omega arith;
             malformed = sym w.1;
           }
 
-  pub header-small : r ≡ settled.NoRoom → PutsHeader slot h (take settled_place slot ++ (after ++ drop settled_limit (drop settled_place slot))) true
+  header-small : r ≡ Err error.NoRoom → PutsHeader slot h (take settled_place slot ++ (after ++ drop settled_limit (drop settled_place slot))) true
   header-small e = go (leb (length h) text_bytes) refl
     where
       go : (b : Bool) → leb (length h) text_bytes ≡ b → PutsHeader slot h (take settled_place slot ++ (after ++ drop settled_limit (drop settled_place slot))) true
       go true t = let q : Answer.small ≡ Answer.header = ap answer_of (sym e) ∙ settles t in clash cc
       go false t = let q : Answer.small ≡ Answer.too_long = ap answer_of (sym e) ∙ refuses t in clash cc
+
+  pub header-refused : (u : SettleError) → r ≡ Err u → PutsHeader slot h (take settled_place slot ++ (after ++ drop settled_limit (drop settled_place slot))) true
+  header-refused error.TooLong e = header-long e
+  header-refused error.NoRoom e = header-small e
 
 -- ---- the decisions
 

@@ -1,13 +1,15 @@
 -- What a load makes of texts and of its container's slot, in the terms of the model of the calls.
-use Rattle.std.specs.Prelude.{ℕ, ◌≤◌, ◌<◌, ◌^◌, ◌≡◌, List, length, take}
+use Rattle.std.specs.Prelude.{ℕ, ◌≤◌, ◌<◌, ◌^◌, ◌≡◌, List, length, take, replicate}
 use Rattle.origins.specs.Origins.{Origin, origin_of}
 use Rattle.origins.specs.Answers.{origin_in}
 use Rattle.origins.specs.declared.OriginRange.{OriginRange}
+use Rattle.origins.specs.declared.OriginRange.TheVariants as range
 use Rattle.containers.specs.Attributes.{Attributes}
 use Rattle.decisions.specs.Decisions.{inherited_top}
 use Rattle.decisions.specs.Masks.{mask_of}
 use Rattle.decisions.specs.Policies.{inherited_in, forecast}
 use Rattle.document_model.specs.Model.{Text, Identity, arrives_at, frame_of, top_identity, framed_identity}
+use Rattle.document_records.specs.declared.Frame.{Frame}
 use Rattle.document_records.specs.Slots.{origin_bytes, document_in, slot_policy}
 use Rattle.document_loads.specs.Slots.{filled, KeptOrigin, IsNewDocument}
 use Rattle.document_loads.specs.declared.FrameMarks.{FrameMarks}
@@ -17,6 +19,14 @@ use Rattle.document_loads.specs.declared.Arrival.{Arrival}
 -- a frame's attributes, as the calls get them
 abbrev pub attributes : List ℕ → FrameMarks → List ℕ → List ℕ → Attributes
 attributes allow marks sandbox src = record { allow = allow; allowfullscreen = marks.allowfullscreen; has_sandbox = marks.has_sandbox; sandbox = sandbox; src = src }
+
+-- the same of the code's frame
+abbrev pub attributes_of : Frame → Attributes
+attributes_of f = record { allow = f.allow.now; allowfullscreen = f.allowfullscreen; has_sandbox = f.has_sandbox; sandbox = f.sandbox.now; src = f.src.now }
+
+-- an opaque origin has no text
+abbrev pub IsOpaque : ℕ → Arrival → Type 0
+IsOpaque n r = r ≡ record { text = replicate origin_bytes 0; length = 0; number = n; origin = range.Opaque n }
 
 -- an origin as it stands in a slot, and beside its text
 pub record IsAt (o : Origin) (r : Arrival) : Type 0 where

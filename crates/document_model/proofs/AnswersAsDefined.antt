@@ -3,7 +3,7 @@ use mathlib.Core.Path.{◌≡◌, refl, sym, ap, subst, ◌∙◌}
 use Prim.Native.Nat.{ℕ, suc, ◌≤◌, ◌<◌}
 use native.Mathlib.Omega.{arith}
 use mathlib.Core.Bool.{Bool, true, false}
-use mathlib.Core.Option.{Option, none}
+use Rattle.std.specs.Prelude.{Option, None}
 use mathlib.Core.List.{List, [], ◌∷◌}
 use lib.Dec.{ltb→lt}
 use lib.ListN.{get_or}
@@ -52,9 +52,9 @@ module _ (p q : Policy) (h : SamePolicy p q) where
 
 -- ---- the policy of a document
 
-declared-at : (h : Text) (n : ℕ) → n < feature_count → get_or (declared_by h) n none ≡ declares h n
+declared-at : (h : Text) (n : ℕ) → n < feature_count → get_or (declared_by h) n None ≡ declares h n
 unfolding declared_by
-declared-at h n l = values-at (declares h) feature_count n none l
+declared-at h n l = values-at (declares h) feature_count n None l
 
 frame_same : (i : Identity) (a : Attributes) (own : Origin) → i.origin ≡ own → frame_declared i a ≡ or_fresh (declared_origin i.sandboxed a own)
 unfolding frame_declared
@@ -91,7 +91,7 @@ same_parts : (x : Document) (above : List ℕ) (o : Origin) (f : ℕ → Decisio
 same_parts x above o f h q w own inherits declared = record {
   own = w.is_origin ∙ own;
   inherits = λ n l. ap (λ (m : ℕ). decision_at m n) w.is_inherited ∙ mask_at f n l ∙ inherits n l;
-  declares = λ n l. ap (λ (k : List (Option Allowlist)). get_or k n none) w.is_declared ∙ declared-at h n l ∙ sym (declared n);
+  declares = λ n l. ap (λ (k : List (Option Allowlist)). get_or k n None) w.is_declared ∙ declared-at h n l ∙ sym (declared n);
 }
 
 record Settled (es : List Event) (x : Document) : Type 0 where

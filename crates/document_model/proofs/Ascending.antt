@@ -2,7 +2,7 @@
 use mathlib.Core.Path.{◌≡◌, subst, sym, ◌∙◌}
 use Prim.Native.Nat.{ℕ, zero, suc, ◌+◌, ◌-◌, ◌≤◌, ◌<◌}
 use mathlib.Core.List.{List}
-use mathlib.Core.Option.{some}
+use Rattle.std.specs.Prelude.{Some}
 use mathlib.Core.Logic.{⊎_elim}
 use native.Mathlib.Nat.{eq-or-lt_of_le}
 use native.Mathlib.Omega.{arith}
@@ -35,11 +35,11 @@ serials-ascend cs f n e i j lt less =
 
 -- the document at a place is that of the serial there, where serials rise
 module _ (f : ℕ → Document) (n s i : ℕ) (up : (j k : ℕ) → j < k → k < n → (f j).identity.serial < (f k).identity.serial) (lt : i < n) (here : (f i).identity.serial ≡ s) where
-  from_place : (m j : ℕ) → j + m ≡ i → find s (values_from f j (n - j)) ≡ some (f i)
+  from_place : (m j : ℕ) → j + m ≡ i → find s (values_from f j (n - j)) ≡ Some (f i)
   from_place zero j e = let q : j ≡ i = omega arith in rw q (find-here f n i s lt here)
   from_place (suc m) j e =
       let less = up j i (omega arith) lt in
       find-on f n j s (omega arith) (λ q. omega arith) ∙ from_place m (j + 1) (omega arith)
 
-  pub found_at : find s (values_from f 0 n) ≡ some (f i)
-  found_at = let e : n - 0 ≡ n = omega arith in subst (λ (k : ℕ). find s (values_from f 0 k) ≡ some (f i)) e (from_place i 0 (omega arith))
+  pub found_at : find s (values_from f 0 n) ≡ Some (f i)
+  found_at = let e : n - 0 ≡ n = omega arith in subst (λ (k : ℕ). find s (values_from f 0 k) ≡ Some (f i)) e (from_place i 0 (omega arith))

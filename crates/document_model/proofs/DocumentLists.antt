@@ -5,7 +5,7 @@ use native.Mathlib.Numerals.{add-one}
 use native.Mathlib.Omega.{arith}
 use mathlib.Core.Bool.{Bool, true, false, ◌||◌}
 use mathlib.Core.List.{List, [], ◌∷◌, ◌++◌, append-nil, append_assoc}
-use mathlib.Core.Option.{some, none}
+use Rattle.std.specs.Prelude.{Some, None}
 use borrow.Author.Tests.{eq-eqb, ne_eqb, eqb-true, eqb-false}
 use lib.Dec.{eqb}
 use lib.ListN.{length, set, take, drop, get_or, length-append}
@@ -32,13 +32,13 @@ elem-nil s = refl
 -- ---- the document of a serial among the first n, from place i on
 
 module _ (f : ℕ → Document) (n i s : ℕ) (lt : i < n) where
-  find-step : find s (values_from f i (n - i)) ≡ pick (eqb s (f i).identity.serial) (some (f i)) (find s (values_from f (i + 1) (n - (i + 1))))
+  find-step : find s (values_from f i (n - i)) ≡ pick (eqb s (f i).identity.serial) (Some (f i)) (find s (values_from f (i + 1) (n - (i + 1))))
   unfolding find values_from
   find-step =
       let e : n - i ≡ suc (n - (i + 1)) = omega arith in
       rw (e, add-one) refl
 
-  pub find-here : (f i).identity.serial ≡ s → find s (values_from f i (n - i)) ≡ some (f i)
+  pub find-here : (f i).identity.serial ≡ s → find s (values_from f i (n - i)) ≡ Some (f i)
   unfolding pick
   find-here e = rw (find-step, eq-eqb s (f i).identity.serial (sym e)) refl
 
@@ -46,7 +46,7 @@ module _ (f : ℕ → Document) (n i s : ℕ) (lt : i < n) where
   unfolding pick
   find-on e = rw (find-step, ne_eqb s (f i).identity.serial (λ q. e (sym q))) refl
 
-pub find-end : (f : ℕ → Document) (n i s : ℕ) → n ≤ i → find s (values_from f i (n - i)) ≡ none
+pub find-end : (f : ℕ → Document) (n i s : ℕ) → n ≤ i → find s (values_from f i (n - i)) ≡ None
 unfolding find values_from
 find-end f n i s le = let e : n - i ≡ 0 = omega arith in rw e refl
 

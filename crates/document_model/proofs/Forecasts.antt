@@ -3,7 +3,7 @@ use mathlib.Core.Path.{◌≡◌, refl, sym, ap, subst, ◌∙◌}
 use Prim.Native.Nat.{ℕ, zero, suc, ◌^◌, ◌≤◌, ◌<◌}
 use native.Mathlib.Omega.{arith}
 use mathlib.Core.Bool.{Bool, true, false, not, ◌||◌}
-use mathlib.Core.Option.{Option, none, some}
+use Rattle.std.specs.Prelude.{Option, None, Some}
 use mathlib.Core.List.{List, [], ◌∷◌, ◌++◌}
 use lib.Dec.{ltb, lt→ltb}
 use lib.ListN.{get_or}
@@ -74,10 +74,10 @@ unfolding refuse_unless
 unless-passed n true k e = (refl, refl)
 unless-passed n false k e = clash cc
 
-with-passed : (o : Option Document) (k : Document → Outcome) → is_accepted (answer_in (with_document o k)) ≡ true → (d : Document) × (o ≡ some d) × (with_document o k ≡ k d)
+with-passed : (o : Option Document) (k : Document → Outcome) → is_accepted (answer_in (with_document o k)) ≡ true → (d : Document) × (o ≡ Some d) × (with_document o k ≡ k d)
 unfolding with_document
-with-passed none k e = clash cc
-with-passed (some d) k e = (d, refl, refl)
+with-passed None k e = clash cc
+with-passed (Some d) k e = (d, refl, refl)
 
 -- a refusal that is another one comes later
 unless-other : (n : Refusal) (m : ℕ) (b : Bool) (k : Outcome) → (refusal_number n ≡ m → ⊥) → answer_in (refuse_unless n b k) ≡ refused m → answer_in k ≡ refused m
@@ -93,7 +93,7 @@ unless-this n false k h e = refl
 -- an accepted framed load
 pub record AcceptedFramed (t : Table) (c : ℕ) (h o : Text) (a : Attributes) : Type 0 where
   pub doc : Document
-  pub is : find c t.docs ≡ some doc
+  pub is : find c t.docs ≡ Some doc
   pub good_src : is_good_origin (origin_of a.src) ≡ true
   pub free : not (frame_sandboxed doc.identity a) || is_null (origin_of o) ≡ true
   pub steps : outcome (framed_load c h o a) t ≡ accept (loaded t.next (is_malformed h)) (record { docs = t.docs ++ (framed_document doc h a (framed_identity doc.identity a (origin_of o) t.next) ∷ []); next = suc t.next })
@@ -124,7 +124,7 @@ accepted-framed t c h o a e =
 -- an accepted forecast
 pub record AcceptedForecast (t : Table) (c : ℕ) (a : Attributes) : Type 0 where
   pub doc : Document
-  pub is : find c t.docs ≡ some doc
+  pub is : find c t.docs ≡ Some doc
   pub steps : outcome (forecast_of c a) t ≡ accept (features (forecast (policy_of doc) (frame_of doc.identity a))) t
 
 pub accepted-forecast : (t : Table) (c : ℕ) (a : Attributes) → is_accepted (answer_to (forecast_of c a) t) ≡ true → AcceptedForecast t c a
@@ -144,7 +144,7 @@ load-free t b make identity e =
     let q = unless-other Spent 5 _ _ (λ z. absurd (omega arith)) (unless-other Full 5 _ _ (λ z. absurd (omega arith)) e) in
     clash cc
 
-refused-sandboxed : (t : Table) (c : ℕ) (h o : Text) (a : Attributes) (d : Document) → find c t.docs ≡ some d → answer_to (framed_load c h o a) t ≡ refused 5 → frame_sandboxed d.identity a ≡ true
+refused-sandboxed : (t : Table) (c : ℕ) (h o : Text) (a : Attributes) (d : Document) → find c t.docs ≡ Some d → answer_to (framed_load c h o a) t ≡ refused 5 → frame_sandboxed d.identity a ≡ true
 unfolding answer_to outcome fitting_outcome with_document
 refused-sandboxed t c h o a d p e =
     let q = unless-other BadOrigin 5 _ _ (λ z. absurd (omega arith)) (unless-other BadOrigin 5 _ _ (λ z. absurd (omega arith)) (unless-other TooLong 5 _ _ (λ z. absurd (omega arith)) e)) in
@@ -184,7 +184,7 @@ inherits-forecast t i c h o a w at =
 
 -- ---- a document with an empty header has what it inherits
 
-undeclared : (i k n : ℕ) → get_or (values_from (declares []) i k) n none ≡ none
+undeclared : (i k n : ℕ) → get_or (values_from (declares []) i k) n None ≡ None
 unfolding values_from
 undeclared i zero n = refl
 undeclared i (suc k) zero = empty-declares i
@@ -194,7 +194,7 @@ empty-enabled : (x : Document) → x.declared ≡ declared_by [] → same_origin
 unfolding declared_by
 empty-enabled x e s l = enabled-undeclared (policy_of x) s (λ n. rw e (undeclared 0 feature_count n)) ∙ mask-back x.inherited l
 
-answers-enabled : (t : Table) (s : ℕ) (x : Document) → find s t.docs ≡ some x → answer_to (enabled_features s) t ≡ features (enabled_mask (policy_of x))
+answers-enabled : (t : Table) (s : ℕ) (x : Document) → find s t.docs ≡ Some x → answer_to (enabled_features s) t ≡ features (enabled_mask (policy_of x))
 unfolding answer_to outcome fitting_outcome refuse_unless texts_fit with_document
 answers-enabled t s x e = rw e refl
 
@@ -202,7 +202,7 @@ forecast-keeps : (t : Table) (c : ℕ) (a : Attributes) (m : ℕ) → answer_to 
 unfolding table_left
 forecast-keeps t c a m e = let w = accepted-forecast t c a (rw e refl) in rw w.steps refl
 
-forecast-found : (t : Table) (c : ℕ) (a : Attributes) (m : ℕ) (d : Document) → find c t.docs ≡ some d → answer_to (forecast_of c a) t ≡ features m → m ≡ forecast (policy_of d) (frame_of d.identity a)
+forecast-found : (t : Table) (c : ℕ) (a : Attributes) (m : ℕ) (d : Document) → find c t.docs ≡ Some d → answer_to (forecast_of c a) t ≡ features m → m ≡ forecast (policy_of d) (frame_of d.identity a)
 unfolding answer_to
 forecast-found t c a m d p e =
     let w = accepted-forecast t c a (unfold answer_to in (rw e refl)) in
@@ -223,7 +223,7 @@ outcome-answers c t u a e = rw e refl
 -- the document of an accepted framed load, in the table that it leaves
 pub record Arrived (u : Table) (h : Text) (s m : ℕ) : Type 0 where
   pub doc : Document
-  pub is : find s u.docs ≡ some doc
+  pub is : find s u.docs ≡ Some doc
   pub inherits : doc.inherited ≡ m
   pub small : doc.inherited < 2 ^ feature_count
   pub declares : doc.declared ≡ declared_by h
@@ -250,11 +250,11 @@ arrived t i c h o a m s bad e at l =
     let k : loaded s bad ≡ loaded t.next (is_malformed h) = sym l ∙ outcome-answers (framed_load c h o a) t v (loaded t.next (is_malformed h)) w.steps in
     let n : t.next ≡ s = cc in
     let j : Invariant v = subst Invariant u (call_next (framed_load c h o a) t i).inv in
-    let f : find x.identity.serial (t.docs ++ (x ∷ [])) ≡ some x = in-find 1 (t.docs ++ (x ∷ [])) (suc t.next) j.rising x (in-last t.docs x) in
+    let f : find x.identity.serial (t.docs ++ (x ∷ [])) ≡ Some x = in-find 1 (t.docs ++ (x ∷ [])) (suc t.next) j.rising x (in-last t.docs x) in
     let sx : x.identity.serial ≡ s = framed-serial w.doc h a (origin_of o) t.next ∙ n in
     record {
       doc = x;
-      is = subst (λ (z : Table). find s z.docs ≡ some x) (sym u) (subst (λ (z : ℕ). find z (t.docs ++ (x ∷ [])) ≡ some x) sx f);
+      is = subst (λ (z : Table). find s z.docs ≡ Some x) (sym u) (subst (λ (z : ℕ). find z (t.docs ++ (x ∷ [])) ≡ Some x) sx f);
       inherits = inherits-forecast t i c h o a w at ∙ sym (forecast-found t c a m w.doc w.is e);
       small = framed-small w.doc h a (framed_identity w.doc.identity a (origin_of o) t.next);
       declares = framed-declares w.doc h a (framed_identity w.doc.identity a (origin_of o) t.next);
@@ -285,16 +285,16 @@ forecast_bits cs c a m n e l =
     ap (λ (k : ℕ). decision_at k n) q ∙ forecast-past (policy_of w.doc) (frame_of w.doc.identity a) n l
 
 -- an accepted number of enabled features
-enabled-found : (t : Table) (s m : ℕ) (o : Option Document) → find s t.docs ≡ o → answer_in (with_document o λ d. accept (features (enabled_mask (policy_of d))) t) ≡ features m → (d : Document) × (find s t.docs ≡ some d) × (m ≡ enabled_mask (policy_of d))
+enabled-found : (t : Table) (s m : ℕ) (o : Option Document) → find s t.docs ≡ o → answer_in (with_document o λ d. accept (features (enabled_mask (policy_of d))) t) ≡ features m → (d : Document) × (find s t.docs ≡ Some d) × (m ≡ enabled_mask (policy_of d))
 unfolding with_document
-enabled-found t s m none p q = clash cc
-enabled-found t s m (some d) p q = (d, p, cc)
+enabled-found t s m None p q = clash cc
+enabled-found t s m (Some d) p q = (d, p, cc)
 
-enabled-in : (t : Table) (s m : ℕ) → answer_to (enabled_features s) t ≡ features m → (d : Document) × (find s t.docs ≡ some d) × (m ≡ enabled_mask (policy_of d))
+enabled-in : (t : Table) (s m : ℕ) → answer_to (enabled_features s) t ≡ features m → (d : Document) × (find s t.docs ≡ Some d) × (m ≡ enabled_mask (policy_of d))
 unfolding answer_to outcome fitting_outcome refuse_unless texts_fit
 enabled-in t s m e = enabled-found t s m (find s t.docs) refl e
 
-own-question : (t : Table) (s n : ℕ) (d : Document) → ltb n feature_count ≡ true → find s t.docs ≡ some d → answer_to (question s n []) t ≡ decision (question_in (policy_of d) n d.identity.origin)
+own-question : (t : Table) (s n : ℕ) (d : Document) → ltb n feature_count ≡ true → find s t.docs ≡ Some d → answer_to (question s n []) t ≡ decision (question_in (policy_of d) n d.identity.origin)
 unfolding answer_to outcome fitting_outcome refuse_unless texts_fit with_document
 own-question t s n d l e = rw (text-empty, l, e) refl
 

@@ -3,7 +3,7 @@ use mathlib.Core.Path.{◌≡◌, refl, sym, subst, ◌∙◌}
 use Prim.Native.Nat.{ℕ, suc, ◌≤◌, ◌<◌}
 use native.Mathlib.Omega.{arith}
 use mathlib.Core.Bool.{Bool, true, false}
-use mathlib.Core.Option.{Option, none, some}
+use Rattle.std.specs.Prelude.{Option, None, Some}
 use mathlib.Core.List.{List, [], ◌∷◌, ◌++◌}
 use lib.Dec.{T, ltb, eqb, eqb→eq}
 use lib.ListN.{length, length-append}
@@ -175,7 +175,7 @@ flows t i d k f off (s ∷ l) x m e q = by-link (λ c n v z. flows t i d k f off
         (λ u. disabled-question (policy_of c) f c.identity.origin (rec c n v u)) q)
 
 -- a serial that names a document before and after names the same one
-pub same-doc : (t u : Table) → Invariant t → Later t u → (s : ℕ) (x y : Document) → find s t.docs ≡ some x → find s u.docs ≡ some y → x ≡ y
+pub same-doc : (t u : Table) → Invariant t → Later t u → (s : ℕ) (x y : Document) → find s t.docs ≡ Some x → find s u.docs ≡ Some y → x ≡ y
 same-doc t u i l s x y p q =
     let a = find-some s t.docs x p in
     let b = find-some s u.docs y q in
@@ -187,7 +187,7 @@ same-doc t u i l s x y p q =
 -- what a question that was answered Disabled shows
 pub record AskedDisabled (t : Table) (s f : ℕ) (said : OriginSaid) : Type 0 where
   pub doc : Document
-  pub is : find s t.docs ≡ some doc
+  pub is : find s t.docs ≡ Some doc
   pub feature : ltb f feature_count ≡ true
   pub is_disabled : question_in (policy_of doc) f (asked_at said doc.identity.origin) ≡ disabled
 
@@ -198,8 +198,8 @@ answered t o f said = with_document o λ d. accept (decision (question_in (polic
 disabled-cases : (t : Table) (s f : ℕ) (said : OriginSaid) (b : Bool) (o : Option Document) → ltb f feature_count ≡ b → find s t.docs ≡ o → answer_in (refuse_unless NoSuchFeature b (answered t o f said)) ≡ decision disabled → AskedDisabled t s f said
 unfolding refuse_unless with_document answered
 disabled-cases t s f said false o e p q = clash cc
-disabled-cases t s f said true none e p q = clash cc
-disabled-cases t s f said true (some d) e p q = record { doc = d; is = p; feature = e; is_disabled = cc }
+disabled-cases t s f said true None e p q = clash cc
+disabled-cases t s f said true (Some d) e p q = record { doc = d; is = p; feature = e; is_disabled = cc }
 
 question-is : (s f : ℕ) (o : Text) (t : Table) → is_good_origin (origin_of o) ≡ true → answer_to (question s f o) t ≡ answer_in (refuse_unless NoSuchFeature (ltb f feature_count) (answered t (find s t.docs) f (origin_of o)))
 unfolding answer_to outcome fitting_outcome answered refuse_unless texts_fit
@@ -208,13 +208,13 @@ question-is s f o t e = rw e
 pub asked-disabled : (t : Table) (s f : ℕ) (o : Text) → is_good_origin (origin_of o) ≡ true → answer_to (question s f o) t ≡ decision disabled → AskedDisabled t s f (origin_of o)
 asked-disabled t s f o g e = disabled-cases t s f (origin_of o) (ltb f feature_count) (find s t.docs) refl refl (sym (question-is s f o t g) ∙ e)
 
-pub says-disabled : (t : Table) (s f : ℕ) (o : Text) (y : Document) → is_good_origin (origin_of o) ≡ true → ltb f feature_count ≡ true → find s t.docs ≡ some y → decision_at y.inherited f ≡ disabled → answer_to (question s f o) t ≡ decision disabled
+pub says-disabled : (t : Table) (s f : ℕ) (o : Text) (y : Document) → is_good_origin (origin_of o) ≡ true → ltb f feature_count ≡ true → find s t.docs ≡ Some y → decision_at y.inherited f ≡ disabled → answer_to (question s f o) t ≡ decision disabled
 unfolding refuse_unless with_document answered
 says-disabled t s f o y g p q h = question-is s f o t g ∙ (rw (p, q, disabled-question (policy_of y) f (asked_at (origin_of o) y.identity.origin) h))
 
 -- after the calls cs the document d is Disabled for f at its own origin: then, after any further calls, each that stands beneath it in the table is at every origin
 pub table-flows-down : (cs ds : List Call) (d f : ℕ) → answer_to (question d f []) (table_after cs) ≡ decision disabled →
-    (x y : Document) → find d (table_after (cs ++ ds)).docs ≡ some y → In x (table_after (cs ++ ds)).docs → T (elem d x.identity.above) →
+    (x y : Document) → find d (table_after (cs ++ ds)).docs ≡ Some y → In x (table_after (cs ++ ds)).docs → T (elem d x.identity.above) →
     (o : Text) → is_good_origin (origin_of o) ≡ true → answer_to (question x.identity.serial f o) (table_after (cs ++ ds)) ≡ decision disabled
 table-flows-down cs ds d f q x y p m b o g =
     let t = table_after cs in
@@ -228,12 +228,12 @@ table-flows-down cs ds d f q x y p m b o g =
     (flows u i y k.0 f off x.identity.above x m refl (rw (← k.1) b))
 
 -- what stands above a document is in the table
-pub above-there : (t : Table) → Invariant t → (d : ℕ) (l : List ℕ) (x : Document) → In x t.docs → x.identity.above ≡ l → T (elem d l) → (y : Document) × (find d t.docs ≡ some y)
+pub above-there : (t : Table) → Invariant t → (d : ℕ) (l : List ℕ) (x : Document) → In x t.docs → x.identity.above ≡ l → T (elem d l) → (y : Document) × (find d t.docs ≡ Some y)
 unfolding elem
 above-there t i d [] x m e q = absurd q
 above-there t i d (s ∷ l) x m e q = by-link (λ c n v z. above-there t i d l c n v z) (i.linked x m)
   where
-    by-link : ((c : Document) → In c t.docs → c.identity.above ≡ l → T (elem d l) → (y : Document) × (find d t.docs ≡ some y)) → Linked t.docs x → (y : Document) × (find d t.docs ≡ some y)
+    by-link : ((c : Document) → In c t.docs → c.identity.above ≡ l → T (elem d l) → (y : Document) × (find d t.docs ≡ Some y)) → Linked t.docs x → (y : Document) × (find d t.docs ≡ Some y)
     by-link rec (at_top z) = clash cc
     by-link rec (in_frame c n z older gives) =
         let w : s ≡ c.identity.serial = cc in

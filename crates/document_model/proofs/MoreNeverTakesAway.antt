@@ -2,7 +2,7 @@
 use mathlib.Core.Path.{◌≡◌, refl, sym, ap, subst, ◌∙◌}
 use Prim.Native.Nat.{ℕ, zero, suc}
 use mathlib.Core.Bool.{Bool, true, false, not, ◌||◌}
-use mathlib.Core.Option.{Option, none, some}
+use Rattle.std.specs.Prelude.{Option, None, Some}
 use mathlib.Core.List.{List, [], ◌∷◌, ◌++◌}
 use lib.Dec.{leb, ltb, eqb}
 use lib.ListN.{length, get_or}
@@ -109,7 +109,7 @@ one-more-shape (keyword_forecast k) = forecast_more (keyword-attributes k)
 -- ---- documents
 
 pub data DocumentMore : Document → Document → Type 0 where
-  document_more : (w : Identity) (i j : ℕ) (l m : List (Option Allowlist)) → ((n : ℕ) → Stays (decision_at i n) (decision_at j n)) → ((n : ℕ) → AsWide (get_or l n none) (get_or m n none))
+  document_more : (w : Identity) (i j : ℕ) (l m : List (Option Allowlist)) → ((n : ℕ) → Stays (decision_at i n) (decision_at j n)) → ((n : ℕ) → AsWide (get_or l n None) (get_or m n None))
       → DocumentMore (record { identity = w; inherited = i; declared = l }) (record { identity = w; inherited = j; declared = m })
 
 pub data DocumentsMore : List Document → List Document → Type 0 where
@@ -124,8 +124,8 @@ data OutcomeMore : Outcome → Outcome → Type 0 where
   more : {a b : Answer} {t u : Table} → Keeps a b → TableMore t u → OutcomeMore (accept a t) (accept b u)
 
 data FoundMore : Option Document → Option Document → Type 0 where
-  not_found : FoundMore none none
-  found : {x y : Document} → DocumentMore x y → FoundMore (some x) (some y)
+  not_found : FoundMore None None
+  found : {x y : Document} → DocumentMore x y → FoundMore (Some x) (Some y)
 
 wider : {x y : Document} → DocumentMore x y → WiderPolicy (policy_of x) (policy_of y)
 wider (document_more w i j l m h p) = record { own = refl; inherits = h; declares = p }
@@ -135,13 +135,13 @@ unfolding frame_declared
 frames w h = record { declared = ap or_fresh (h.same_declared w.sandboxed w.origin); allows = h.allows_more }
 
 -- the seventeen, place by place
-values-more : (f g : ℕ → Option Allowlist) → ((n : ℕ) → AsWide (f n) (g n)) → (i k n : ℕ) → AsWide (get_or (values_from f i k) n none) (get_or (values_from g i k) n none)
+values-more : (f g : ℕ → Option Allowlist) → ((n : ℕ) → AsWide (f n) (g n)) → (i k n : ℕ) → AsWide (get_or (values_from f i k) n None) (get_or (values_from g i k) n None)
 unfolding values_from
 values-more f g h i zero n = neither
 values-more f g h i (suc k) zero = h i
 values-more f g h i (suc k) (suc n) = values-more f g h (suc i) k n
 
-declared-more : {h g : Text} → HeaderMore h g → (n : ℕ) → AsWide (get_or (declared_by h) n none) (get_or (declared_by g) n none)
+declared-more : {h g : Text} → HeaderMore h g → (n : ℕ) → AsWide (get_or (declared_by h) n None) (get_or (declared_by g) n None)
 unfolding declared_by
 declared-more {h} {g} l n = values-more (declares h) (declares g) l.declares_more 0 feature_count n
 

@@ -4,7 +4,7 @@ use Prim.Native.Nat.{ℕ, ◌<◌}
 use mathlib.Core.List.{List, [], ◌∷◌, ◌++◌}
 use lib.ListN.{length, drop}
 use mathlib.Core.Bool.{false}
-use mathlib.Core.Option.{some}
+use Rattle.std.specs.Prelude.{Some}
 use Rattle.features.specs.Features.{feature_count}
 use Rattle.origins.specs.Origins.{OriginSaid}
 use Rattle.origins.specs.Origins.Origin.{opaque}
@@ -66,5 +66,5 @@ unfolding stored
 stored_is l run = refl
 
 -- fewer documents stand above a loaded one than are loaded
-pub found-fewer : (cs : List Call) (s : ℕ) (x : Document) → find s (table_after cs).docs ≡ some x → length x.identity.above < length (table_after cs).docs
+pub found-fewer : (cs : List Call) (s : ℕ) (x : Document) → find s (table_after cs).docs ≡ Some x → length x.identity.above < length (table_after cs).docs
 found-fewer cs s x e = above-fewer cs x (find-some s (table_after cs).docs x e).0

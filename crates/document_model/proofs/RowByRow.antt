@@ -3,7 +3,7 @@ use mathlib.Core.Path.{◌≡◌, ap}
 use Prim.Native.Nat.{ℕ, suc, ◌≤◌, ◌<◌}
 use mathlib.Core.List.{List, [], ◌∷◌, ◌++◌}
 use mathlib.Core.Bool.{Bool, true, false, not, ◌&&◌, ◌||◌}
-use mathlib.Core.Option.{some, none}
+use Rattle.std.specs.Prelude.{Some, None}
 use lib.ListN.{length}
 use borrow.Author.Tests.{le-leb, lt-leb, le-ltb, lt-ltb}
 use Rattle.limits.specs.Limits.{document_limit, last_serial}
@@ -36,41 +36,41 @@ module _ (s f : ℕ) (o : Text) (t : Table) where
     question-feature h = rw (good, le-ltb f feature_count h)
 
     module _ (h : f < feature_count) where
-      pub question-closed : find s t.docs ≡ none → outcome (question s f o) t ≡ refuse NotLoaded
+      pub question-closed : find s t.docs ≡ None → outcome (question s f o) t ≡ refuse NotLoaded
       unfolding outcome texts_fit fitting_outcome refuse_unless with_document
       question-closed e = rw (good, lt-ltb f feature_count h, e)
 
-      pub question-answer : (d : Document) → find s t.docs ≡ some d → outcome (question s f o) t ≡ accept (decision (question_in (policy_of d) f (asked_at (origin_of o) d.identity.origin))) t
+      pub question-answer : (d : Document) → find s t.docs ≡ Some d → outcome (question s f o) t ≡ accept (decision (question_in (policy_of d) f (asked_at (origin_of o) d.identity.origin))) t
       unfolding outcome texts_fit fitting_outcome refuse_unless with_document
       question-answer d e = rw (good, lt-ltb f feature_count h, e)
 
 -- the number of enabled features
 module _ (s : ℕ) (t : Table) where
-  pub enabled-closed : find s t.docs ≡ none → outcome (enabled_features s) t ≡ refuse NotLoaded
+  pub enabled-closed : find s t.docs ≡ None → outcome (enabled_features s) t ≡ refuse NotLoaded
   unfolding outcome texts_fit fitting_outcome refuse_unless with_document
   enabled-closed e = rw e
 
-  pub enabled-answer : (d : Document) → find s t.docs ≡ some d → outcome (enabled_features s) t ≡ accept (features (enabled_mask (policy_of d))) t
+  pub enabled-answer : (d : Document) → find s t.docs ≡ Some d → outcome (enabled_features s) t ≡ accept (features (enabled_mask (policy_of d))) t
   unfolding outcome texts_fit fitting_outcome refuse_unless with_document
   enabled-answer d e = rw e
 
 -- an unload
 module _ (s : ℕ) (t : Table) where
-  pub unload-closed : find s t.docs ≡ none → outcome (unload s) t ≡ refuse NotLoaded
+  pub unload-closed : find s t.docs ≡ None → outcome (unload s) t ≡ refuse NotLoaded
   unfolding outcome texts_fit fitting_outcome refuse_unless with_document
   unload-closed e = rw e
 
-  pub unload-answer : (d : Document) → find s t.docs ≡ some d → outcome (unload s) t ≡ accept (removed (removed_count s t.docs)) (record { docs = remaining s t.docs; next = t.next })
+  pub unload-answer : (d : Document) → find s t.docs ≡ Some d → outcome (unload s) t ≡ accept (removed (removed_count s t.docs)) (record { docs = remaining s t.docs; next = t.next })
   unfolding outcome texts_fit fitting_outcome refuse_unless with_document
   unload-answer d e = rw e
 
 -- a listing
 module _ (s : ℕ) (run : List ℕ) (t : Table) where
-  pub listing-closed : find s t.docs ≡ none → outcome (listing s run) t ≡ refuse NotLoaded
+  pub listing-closed : find s t.docs ≡ None → outcome (listing s run) t ≡ refuse NotLoaded
   unfolding outcome texts_fit fitting_outcome refuse_unless with_document
   listing-closed e = rw e
 
-  module _ (d : Document) (e : find s t.docs ≡ some d) where
+  module _ (d : Document) (e : find s t.docs ≡ Some d) where
     pub listing-small : length run < length (serials_beneath s t.docs) → outcome (listing s run) t ≡ refuse Small
     unfolding outcome texts_fit fitting_outcome refuse_unless with_document
     listing-small h = rw (e, lt-leb (length (serials_beneath s t.docs)) (length run) h)
@@ -91,11 +91,11 @@ module _ (c : ℕ) (a : Attributes) (t : Table) where
     forecast-bad e = rw (short, e)
 
     module _ (good : is_good_origin (origin_of a.src) ≡ true) where
-      pub forecast-closed : find c t.docs ≡ none → outcome (forecast_of c a) t ≡ refuse NotLoaded
+      pub forecast-closed : find c t.docs ≡ None → outcome (forecast_of c a) t ≡ refuse NotLoaded
       unfolding outcome texts_fit fitting_outcome refuse_unless with_document
       forecast-closed e = rw (short, good, e)
 
-      pub forecast-answer : (d : Document) → find c t.docs ≡ some d → outcome (forecast_of c a) t ≡ accept (features (forecast (policy_of d) (frame_of d.identity a))) t
+      pub forecast-answer : (d : Document) → find c t.docs ≡ Some d → outcome (forecast_of c a) t ≡ accept (features (forecast (policy_of d) (frame_of d.identity a))) t
       unfolding outcome texts_fit fitting_outcome refuse_unless with_document
       forecast-answer d e = rw (short, good, e)
 
@@ -146,11 +146,11 @@ module _ (c : ℕ) (h o : Text) (a : Attributes) (t : Table) where
       framed_src e = rw (short, good, e)
 
       module _ (src : is_good_origin (origin_of a.src) ≡ true) where
-        pub framed-closed : find c t.docs ≡ none → outcome (framed_load c h o a) t ≡ refuse NotLoaded
+        pub framed-closed : find c t.docs ≡ None → outcome (framed_load c h o a) t ≡ refuse NotLoaded
         unfolding outcome texts_fit fitting_outcome refuse_unless with_document
         framed-closed e = rw (short, good, src, e)
 
-        module _ (d : Document) (e : find c t.docs ≡ some d) where
+        module _ (d : Document) (e : find c t.docs ≡ Some d) where
           pub framed_sandbox : frame_sandboxed d.identity a ≡ true → is_null (origin_of o) ≡ false → outcome (framed_load c h o a) t ≡ refuse Sandbox
           unfolding outcome texts_fit fitting_outcome refuse_unless with_document
           framed_sandbox b n = rw (short, good, src, e, b, n)

@@ -3,7 +3,7 @@ use mathlib.Core.Path.{◌≡◌, refl, sym, ap, subst, ◌∙◌}
 use Prim.Native.Nat.{ℕ, ◌+◌, ◌≤◌}
 use native.Mathlib.Omega.{arith}
 use mathlib.Core.Bool.{Bool, true, false}
-use mathlib.Core.Option.{Option, none, some}
+use Rattle.std.specs.Prelude.{Option, None, Some}
 use mathlib.Core.List.{List, [], ◌∷◌, ◌++◌}
 use lib.Dec.{leb}
 use lib.ListN.{length}
@@ -69,9 +69,9 @@ at_most_limit cs l a =
 listed_of : (t : Table) (s n : ℕ) (run r : List ℕ) (o : Option Document) (b : Bool) →
     answer_in (with_document o λ d. refuse_unless Small b (accept (serials (length (serials_beneath s t.docs)) (stored (serials_beneath s t.docs) run)) t)) ≡ serials n r → Listed n r run (serials_beneath s t.docs)
 unfolding with_document refuse_unless stored
-listed_of t s n run r none b e = clash cc
-listed_of t s n run r (some d) false e = clash cc
-listed_of t s n run r (some d) true e = record { count = cc; run_afterwards = cc }
+listed_of t s n run r None b e = clash cc
+listed_of t s n run r (Some d) false e = clash cc
+listed_of t s n run r (Some d) true e = record { count = cc; run_afterwards = cc }
 
 listing-is : (t : Table) (s n : ℕ) (run r : List ℕ) → answer_to (listing s run) t ≡ serials n r → Listed n r run (serials_beneath s t.docs)
 unfolding answer_to outcome fitting_outcome texts_fit

@@ -2,7 +2,7 @@
 use mathlib.Core.Path.{◌≡◌, refl, sym, ap, subst, ◌∙◌}
 use Prim.Native.Nat.{ℕ}
 use mathlib.Core.Bool.{Bool, true, false}
-use mathlib.Core.Option.{Option, some, none}
+use Rattle.std.specs.Prelude.{Option, Some, None}
 use mathlib.Core.List.{List, ◌++◌}
 use Rattle.ascii.proofs.Clash.{clash}
 use Rattle.limits.specs.declared.Refusal.{Refusal}
@@ -101,17 +101,17 @@ framed_says c h o a t = (answer-right (framed_load c h o a) t).says
 -- ---- policies are settled at load
 
 -- the serial of a loaded document finds one
-loaded_found : (cs : List Call) (s : ℕ) → LoadedIn (history cs) s → (x : Document) × (find s (table_after cs).docs ≡ some x)
+loaded_found : (cs : List Call) (s : ℕ) → LoadedIn (history cs) s → (x : Document) × (find s (table_after cs).docs ≡ Some x)
 loaded_found cs s l =
     let w = (agrees cs).is_there s l in
-    (w.0, subst (λ (k : ℕ). find k (table_after cs).docs ≡ some w.0) w.2 (in-find 1 (table_after cs).docs (table_after cs).next (reachable cs).rising w.0 w.1))
+    (w.0, subst (λ (k : ℕ). find k (table_after cs).docs ≡ Some w.0) w.2 (in-find 1 (table_after cs).docs (table_after cs).next (reachable cs).rising w.0 w.1))
 
 -- and after further calls the same
 found-again : (cs ds : List Call) (s : ℕ) → LoadedIn (history cs) s → LoadedIn (history (cs ++ ds)) s → find s (table_after (cs ++ ds)).docs ≡ find s (table_after cs).docs
 found-again cs ds s l m =
     let x = loaded_found cs s l in
     let y = loaded_found (cs ++ ds) s m in
-    y.1 ∙ ap some (sym (same-doc (table_after cs) (table_after (cs ++ ds)) (reachable cs) (later-after cs ds) s x.0 y.0 x.1 y.1)) ∙ sym x.1
+    y.1 ∙ ap Some (sym (same-doc (table_after cs) (table_after (cs ++ ds)) (reachable cs) (later-after cs ds) s x.0 y.0 x.1 y.1)) ∙ sym x.1
 
 -- answers of tests and of what is found
 unless-same : (n : Refusal) (b : Bool) (j k : Outcome) → answer_in j ≡ answer_in k → answer_in (refuse_unless n b j) ≡ answer_in (refuse_unless n b k)
@@ -121,10 +121,10 @@ unless-same n false j k e = refl
 
 with-same : (o p : Option Document) (j k : Document → Outcome) → o ≡ p → ((d : Document) → answer_in (j d) ≡ answer_in (k d)) → answer_in (with_document o j) ≡ answer_in (with_document p k)
 unfolding with_document
-with-same none none j k e f = refl
-with-same none (some d) j k e f = clash cc
-with-same (some d) none j k e f = clash cc
-with-same (some c) (some d) j k e f = let z : c ≡ d = cc in f c ∙ ap (λ (x : Document). answer_in (k x)) z
+with-same None None j k e f = refl
+with-same None (Some d) j k e f = clash cc
+with-same (Some d) None j k e f = clash cc
+with-same (Some c) (Some d) j k e f = let z : c ≡ d = cc in f c ∙ ap (λ (x : Document). answer_in (k x)) z
 
 module _ (s : ℕ) (t u : Table) (e : find s u.docs ≡ find s t.docs) where
   question-same : (f : ℕ) (o : Text) → answer_to (question s f o) u ≡ answer_to (question s f o) t

@@ -3,7 +3,7 @@ use mathlib.Core.Path.{◌≡◌, refl, ap, subst, ◌∙◌}
 use Prim.Native.Nat.{ℕ, zero, suc, ◌+◌, ◌≤◌, ◌<◌}
 use native.Mathlib.Omega.{arith}
 use mathlib.Core.Bool.{Bool, true, false}
-use mathlib.Core.Option.{Option, none, some}
+use Rattle.std.specs.Prelude.{Option, None, Some}
 use mathlib.Core.List.{List, [], ◌∷◌, ◌++◌}
 use lib.Dec.{T, eqb, eqb→eq, eqb_refl}
 use lib.ListN.{length}
@@ -113,14 +113,14 @@ rising-one lo (d ∷ ds) hi r x y (there m) (there n) e = rising-one (suc d.iden
 -- ---- what find finds
 
 pub data Finds (s : ℕ) (ds : List Document) : Option Document → Type 0 where
-  missing : ((x : Document) → In x ds → s ≡ x.identity.serial → ⊥) → Finds s ds none
-  hit : (d : Document) → In d ds → s ≡ d.identity.serial → Finds s ds (some d)
+  missing : ((x : Document) → In x ds → s ≡ x.identity.serial → ⊥) → Finds s ds None
+  hit : (d : Document) → In d ds → s ≡ d.identity.serial → Finds s ds (Some d)
 
 not_first : (s : ℕ) (d : Document) (ds : List Document) → eqb s d.identity.serial ≡ false → ((x : Document) → In x ds → s ≡ x.identity.serial → ⊥) → (x : Document) → In x (d ∷ ds) → s ≡ x.identity.serial → ⊥
 not_first s d ds e h x here q = absurd (subst T e (subst (λ (n : ℕ). T (eqb s n)) q (eqb_refl s)))
 not_first s d ds e h x (there m) q = h x m q
 
-first_found : (s : ℕ) (d : Document) (ds : List Document) (b : Bool) → eqb s d.identity.serial ≡ b → (o : Option Document) → Finds s ds o → Finds s (d ∷ ds) (pick b (some d) o)
+first_found : (s : ℕ) (d : Document) (ds : List Document) (b : Bool) → eqb s d.identity.serial ≡ b → (o : Option Document) → Finds s ds o → Finds s (d ∷ ds) (pick b (Some d) o)
 unfolding pick
 first_found s d ds true e o f = hit d here (eqb→eq s d.identity.serial (rw e tt))
 first_found s d ds false e o (missing h) = missing (not_first s d ds e h)
@@ -131,14 +131,14 @@ unfolding find
 finds s [] = missing (λ x m. elim m [ ])
 finds s (d ∷ ds) = first_found s d ds (eqb s d.identity.serial) refl (find s ds) (finds s ds)
 
-found-in : (s : ℕ) (ds : List Document) (o : Option Document) → Finds s ds o → (d : Document) → o ≡ some d → In d ds × (s ≡ d.identity.serial)
+found-in : (s : ℕ) (ds : List Document) (o : Option Document) → Finds s ds o → (d : Document) → o ≡ Some d → In d ds × (s ≡ d.identity.serial)
 found-in s ds o (missing h) d e = clash cc
 found-in s ds o (hit x m q) d e = let z : x ≡ d = cc in (subst (λ (y : Document). In y ds) z m, q ∙ ap (λ (y : Document). y.identity.serial) z)
 
-pub find-some : (s : ℕ) (ds : List Document) (d : Document) → find s ds ≡ some d → In d ds × (s ≡ d.identity.serial)
+pub find-some : (s : ℕ) (ds : List Document) (d : Document) → find s ds ≡ Some d → In d ds × (s ≡ d.identity.serial)
 find-some s ds d e = found-in s ds (find s ds) (finds s ds) d e
 
-pub in-find : (lo : ℕ) (ds : List Document) (hi : ℕ) → Rising lo ds hi → (c : Document) → In c ds → find c.identity.serial ds ≡ some c
+pub in-find : (lo : ℕ) (ds : List Document) (hi : ℕ) → Rising lo ds hi → (c : Document) → In c ds → find c.identity.serial ds ≡ Some c
 unfolding find pick
 in-find lo [] hi r c m = elim m [ ]
 in-find lo (d ∷ ds) hi r c here = rw (eqb-self c.identity.serial)

@@ -1,6 +1,6 @@
 -- 01, "The table of loaded documents": the table, the calls on it, and what a list of calls answers.
 use Rattle.std.specs.Prelude.{ℕ, zero, suc, Bool, true, false, not, ◌&&◌, ◌||◌, List, [], ◌∷◌, ◌++◌, leb, ltb, eqb, length, drop, get_or}
-use Rattle.std.proofs.Math.Option.{Option, some, none}
+use Rattle.std.specs.Prelude.{Option, Some, None}
 use Rattle.ascii.specs.Bytes.{pick}
 use Rattle.limits.specs.Limits.{text_bytes, document_limit, last_serial}
 use Rattle.limits.specs.Refusals.{refusal_number}
@@ -87,7 +87,7 @@ declared_by h = values_from (declares h) 0 feature_count
 
 -- the policy that decisions are made by
 abbrev pub policy_of : Document → Policy
-policy_of d = record { inherited = decision_at d.inherited; declared = λ n. get_or d.declared n none; own = d.identity.origin }
+policy_of d = record { inherited = decision_at d.inherited; declared = λ n. get_or d.declared n None; own = d.identity.origin }
 
 -- ---- 01, "Header and attribute": frames
 
@@ -97,8 +97,8 @@ frame_sandboxed container a = is_sandboxed container.sandboxed a
 
 -- a src that is no origin text is refused, and its declared origin is never used
 abbrev pub or_fresh : Option Origin → Origin
-or_fresh (some o) = o
-or_fresh none = fresh
+or_fresh (Some o) = o
+or_fresh None = fresh
 
 -- the declared origin
 unfoldable pub frame_declared : Identity → Attributes → Origin
@@ -124,8 +124,8 @@ elem n (x ∷ xs) = eqb n x || elem n xs
 
 -- the document of a serial; none where "the serial names no loaded document"
 unfoldable pub find : ℕ → List Document → Option Document
-find s [] = none
-find s (d ∷ ds) = pick (eqb s d.identity.serial) (some d) (find s ds)
+find s [] = None
+find s (d ∷ ds) = pick (eqb s d.identity.serial) (Some d) (find s ds)
 
 -- "Unloading removes a document and all beneath it": the document has the serial, or is beneath the one that has it
 unfoldable pub is_at_or_beneath : ℕ → Identity → Bool
@@ -200,8 +200,8 @@ refuse_unless n false k = refuse n
 
 -- refusal 1
 unfoldable pub with_document : Option Document → (Document → Outcome) → Outcome
-with_document none k = refuse NotLoaded
-with_document (some d) k = k d
+with_document None k = refuse NotLoaded
+with_document (Some d) k = k d
 
 -- refusal 4: "header, allow or sandbox text over" the limit
 abbrev pub is_short : Text → Bool

@@ -3,7 +3,7 @@ use mathlib.Core.Path.{◌≡◌, refl, sym, ◌∙◌}
 use Prim.Native.Nat.{ℕ}
 use mathlib.Core.Bool.{Bool, true, false}
 use mathlib.Core.List.{List}
-use mathlib.Core.Option.{none}
+use Rattle.std.specs.Prelude.{None}
 use lib.Dec.{ltb}
 use native.Mathlib.Omega.{arith}
 use lib.ListN.{length, get_or, length-take, length-drop}
@@ -55,9 +55,9 @@ pub slot-declared : (slot : List ℕ) (n : ℕ) → (slot_policy slot).declared 
 unfolding document_in
 slot-declared slot n = go (ltb n feature_count) refl
   where
-    go : (b : Bool) → ltb n feature_count ≡ b → get_or (values_from (declared_in (settled_in slot)) 0 feature_count) n none ≡ declared_in (settled_in slot) n
-    go true e = values-at (declared_in (settled_in slot)) feature_count n none (ltb-true n feature_count e)
-    go false e = values-past (declared_in (settled_in slot)) 0 feature_count n none (ltb-false n feature_count e) ∙ sym (declared-past (settled_in slot) n (ltb-false n feature_count e))
+    go : (b : Bool) → ltb n feature_count ≡ b → get_or (values_from (declared_in (settled_in slot)) 0 feature_count) n None ≡ declared_in (settled_in slot) n
+    go true e = values-at (declared_in (settled_in slot)) feature_count n None (ltb-true n feature_count e)
+    go false e = values-past (declared_in (settled_in slot)) 0 feature_count n None (ltb-false n feature_count e) ∙ sym (declared-past (settled_in slot) n (ltb-false n feature_count e))
 
 pub slot-own : (slot : List ℕ) → (slot_policy slot).own ≡ own_origin slot
 unfolding document_in

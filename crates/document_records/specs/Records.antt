@@ -1,6 +1,6 @@
 -- What the functions over a slot promise, in the terms of the model of the calls.
 use Rattle.std.specs.Prelude.{ℕ, ◌≡◌, Bool, false, List}
-use Rattle.std.proofs.Math.Option.{Option, some, none}
+use Rattle.std.specs.Prelude.{Option, Some, None}
 use Rattle.features.specs.Features.{default_of}
 use Rattle.origins.specs.Origins.{Origin, origin_of}
 use Rattle.origins.specs.Matching.{same_origin}
@@ -10,21 +10,18 @@ use Rattle.origins.specs.declared.OriginText.TheVariants as said
 use Rattle.origins.specs.declared.OriginRange.TheVariants as range
 use Rattle.origins.specs.declared.OriginRange.{OriginRange}
 use Rattle.allowlists.specs.Allowlists.{Allowlist, some_admits}
-use Rattle.allowlists.specs.Answers.{admission_as}
-use Rattle.allowlists.specs.declared.Admission.{Admission}
 use Rattle.decisions.specs.Decisions.{Decision, inherited_by}
 use Rattle.decisions.specs.Masks.{mask_of}
 use Rattle.decisions.specs.Policies.{Policy, Frame, inherited_framed, value_in, inherited_in}
 use Rattle.containers.specs.Policies.{attribute_policy}
 use Rattle.document_records.specs.Slots.{own_text, own_number, own_origin, slot_policy}
-use Rattle.document_records.specs.declared.Arriving.{Arriving}
 
 -- an origin by what its text was read as; without a tuple it is opaque, by a number
-abbrev pub range_by : OriginText → ℕ → OriginRange
-range_by said.Empty n = range.Opaque n
-range_by said.Null n = range.Opaque n
-range_by (said.Tuple r) n = range.Tuple r
-range_by said.NotAnOrigin n = range.Opaque n
+abbrev pub range_by : Option OriginText → ℕ → OriginRange
+range_by (Some said.Empty) n = range.Opaque n
+range_by (Some said.Null) n = range.Opaque n
+range_by (Some (said.Tuple r)) n = range.Tuple r
+range_by None n = range.Opaque n
 
 -- the document's origin, beside its text
 pub record IsOwnRange (slot : List ℕ) (r : OriginRange) : Type 0 where
@@ -32,19 +29,13 @@ pub record IsOwnRange (slot : List ℕ) (r : OriginRange) : Type 0 where
   pub is : origin_in (own_text slot) r ≡ own_origin slot
 
 -- what the declared list answers for an origin, told whether it is the document's own
-pub record DeclaredAnswers (slot : List ℕ) (n : ℕ) (same : Bool) (o : Origin) (r : Admission) : Type 0 where
-  pub is : r ≡ admission_as (some_admits ((slot_policy slot).declared n) same false o)
-
--- what decides about an origin that arrives in a frame of the document
-pub record IsArriving (slot : List ℕ) (o : Origin) (a : Arriving) : Type 0 where
-  pub own : origin_in (own_text slot) a.own ≡ own_origin slot
-  pub itself : a.itself ≡ same_origin (own_origin slot) (own_origin slot)
-  pub same : a.same ≡ same_origin (own_origin slot) o
+pub record DeclaredAnswers (slot : List ℕ) (n : ℕ) (same : Bool) (o : Origin) (r : Option Bool) : Type 0 where
+  pub is : r ≡ some_admits ((slot_policy slot).declared n) same false o
 
 -- whether an origin is the declared one, where there is one
 abbrev pub declared_is : Option Origin → Origin → Bool
-declared_is (some x) o = same_origin x o
-declared_is none o = false
+declared_is (Some x) o = same_origin x o
+declared_is None o = false
 
 -- *Inherited* of a feature, told whether the arriving origin is the declared one
 abbrev pub inherited_told : Policy → ℕ → Option Allowlist → Bool → Origin → Decision

@@ -1,4 +1,9 @@
 -- Every list of calls has a run of the code over lent bytes: what `AnsweredByCode` asks is met. The bytes after a step are those that the calls' contracts say, and those past the table stay. Assumes nothing.
+use Rattle.decisions.specs.declared.Decision.TheVariants as verdict
+use Rattle.decisions.specs.declared.Decision.{Decision as Verdict}
+use Rattle.documents.specs.declared.LoadedDocument.{LoadedDocument}
+use Rattle.limits.specs.declared.Refusal.{Refusal}
+use Rattle.std.specs.Prelude.{Result, Ok, Err}
 use mathlib.Core.Path.{◌≡◌, refl, ap, sym, subst, ◌∙◌}
 use Prim.Native.Nat.{ℕ, suc, ◌+◌, ◌≤◌, ◌<◌, ◌^◌}
 use native.Mathlib.Omega.{arith}
@@ -28,16 +33,6 @@ use Rattle.document_table.proofs.Laws.{docs-length, docs-are, doc-serial, loaded
 use Rattle.document_table.proofs.Sweeping.{removed-past}
 use Rattle.document_loads.specs.Slots.{described, with_decisions, Written}
 use Rattle.document_loads.proofs.Written.{Fitting, is-written}
-use Rattle.documents.specs.declared.QuestionAnswer.{QuestionAnswer}
-use Rattle.documents.specs.declared.QuestionAnswer.TheVariants as asked
-use Rattle.documents.specs.declared.FeaturesAnswer.{FeaturesAnswer}
-use Rattle.documents.specs.declared.FeaturesAnswer.TheVariants as mask
-use Rattle.documents.specs.declared.LoadAnswer.{LoadAnswer}
-use Rattle.documents.specs.declared.LoadAnswer.TheVariants as loading
-use Rattle.documents.specs.declared.UnloadAnswer.{UnloadAnswer}
-use Rattle.documents.specs.declared.UnloadAnswer.TheVariants as unloading
-use Rattle.documents.specs.declared.ListingAnswer.{ListingAnswer}
-use Rattle.documents.specs.declared.ListingAnswer.TheVariants as listed
 use Rattle.documents.specs.Bytes.{with_newest, changed, bytes_left}
 use Rattle.documents.specs.Answers.{Valid, question_in, features_in, bytes_of_new, Loads, Unloads, Lists}
 use Rattle.documents.specs.Steps.{HasRoom}
@@ -98,9 +93,9 @@ pub record Next (c : Call) (t : List ℕ) : Type 0 where
   pub step : Step c t answer run left
   pub past : drop table_bytes left ≡ drop table_bytes t
 
-decision_as : Decision → QuestionAnswer
-decision_as disabled = asked.Disabled
-decision_as enabled = asked.Enabled
+decision_as : Decision → Result Verdict Refusal
+decision_as disabled = Ok verdict.Disabled
+decision_as enabled = Ok verdict.Enabled
 
 decision-back : (d : Decision) → question_in (decision_as d) ≡ decision d
 unfolding decision_as
@@ -108,43 +103,43 @@ decision-back disabled = refl
 decision-back enabled = refl
 
 record Answered (c : Call) (t : List ℕ) : Type 0 where
-  answer : QuestionAnswer
+  answer : Result Verdict Refusal
   is : question_in answer ≡ answer_to c (view t)
 
 asked-next : (c : Call) (t : List ℕ) (x : Outcome) → outcome c (view t) ≡ x → Asked x → Answered c t
-asked-next c t x e (asked_not n) = record { answer = asked.Refused n; is = sym (answer-of c (view t) (refuse n) e) }
+asked-next c t x e (asked_not n) = record { answer = Err n; is = sym (answer-of c (view t) (refuse n) e) }
 asked-next c t x e (asked_is d u) = record { answer = decision_as d; is = decision-back d ∙ sym (answer-of c (view t) (accept (decision d) u) e) }
 
 record Numbered (c : Call) (t : List ℕ) : Type 0 where
-  answer : FeaturesAnswer
+  answer : Result ℕ Refusal
   is : features_in answer ≡ answer_to c (view t)
 
 told-next : (c : Call) (t : List ℕ) (x : Outcome) → outcome c (view t) ≡ x → Told x → Numbered c t
-told-next c t x e (told_not n) = record { answer = mask.Refused n; is = sym (answer-of c (view t) (refuse n) e) }
-told-next c t x e (told_is m u) = record { answer = mask.Features m; is = sym (answer-of c (view t) (accept (features m) u) e) }
+told-next c t x e (told_not n) = record { answer = Err n; is = sym (answer-of c (view t) (refuse n) e) }
+told-next c t x e (told_is m u) = record { answer = Ok m; is = sym (answer-of c (view t) (accept (features m) u) e) }
 
 record Stored (c : Call) (t : List ℕ) (before : List ℕ) : Type 0 where
-  answer : ListingAnswer
+  answer : Result ℕ Refusal
   after : List ℕ
   is : Lists c t before after answer
 
 listed_next : (c : Call) (t : List ℕ) (before : List ℕ) (x : Outcome) → outcome c (view t) ≡ x → Listed x → Stored c t before
-listed_next c t before x e (listed_not n) = record { answer = listed.Refused n; after = before; is = record { answer = sym (answer-of c (view t) (refuse n) e); refusal = λ m q. refl } }
-listed_next c t before x e (listed_is n run u) = record { answer = listed.Count n; after = run; is = record { answer = sym (answer-of c (view t) (accept (serials n run) u) e); refusal = λ m q. clash cc } }
+listed_next c t before x e (listed_not n) = record { answer = Err n; after = before; is = record { answer = sym (answer-of c (view t) (refuse n) e); refusal = λ m q. refl } }
+listed_next c t before x e (listed_is n run u) = record { answer = Ok n; after = run; is = record { answer = sym (answer-of c (view t) (accept (serials n run) u) e); refusal = λ m q. clash cc } }
 
 -- an unload
 record Unloaded (c : Call) (t : List ℕ) : Type 0 where
-  answer : UnloadAnswer
+  answer : Result ℕ Refusal
   after : List ℕ
   is : Unloads c t after answer
   past : drop table_bytes after ≡ drop table_bytes t
 
 removed-next : (s : ℕ) (t : List ℕ) → Valid t → (x : Outcome) → outcome (unload s) (view t) ≡ x → Removed s (view t) x → Unloaded (unload s) t
-removed-next s t v x e (removed_not n) = record { answer = unloading.Refused n; after = t; is = kept-unload t s n v e; past = refl }
+removed-next s t v x e (removed_not n) = record { answer = Err n; after = t; is = kept-unload t s n v e; past = refl }
 removed-next s t v x e removed_is =
     let gone = removal t s (serials-small t v) v.sound in
     record {
-      answer = unloading.Removed gone.many;
+      answer = Ok gone.many;
       after = gone.after;
       is = removed-unload t gone.after s gone.many v e gone.is;
       past = ap (drop table_bytes) gone.is.is ∙ removed-past s t v.sound;
@@ -173,20 +168,20 @@ module _ (t : List ℕ) (i : Identity) (m : ℕ) (h : Text) (has : HasRoom t) (f
 
 -- a load
 record LoadedNext (c : Call) (t : List ℕ) : Type 0 where
-  answer : LoadAnswer
+  answer : Result LoadedDocument Refusal
   after : List ℕ
   is : Loads c t after answer
   past : drop table_bytes after ≡ drop table_bytes t
 
 pushed-next : (c : Call) (t : List ℕ) (h : Text) → Valid t → ((x : ModelTable) → changed c x t ≡ with_newest t x h) → (x : Outcome) → outcome c (view t) ≡ x → Pushed Placeable h (view t) x → LoadedNext c t
-pushed-next c t h v changes x e (pushed_not n) = record { answer = loading.Refused n; after = t; is = refused-load c t n v e; past = refl }
+pushed-next c t h v changes x e (pushed_not n) = record { answer = Err n; after = t; is = refused-load c t n v e; past = refl }
 pushed-next c t h v changes x e (pushed_is m i b f own short room spent) =
     let count : count_in t < document_limit = omega (arith, docs-length t) in
     let last : last_in t < last_serial = omega arith in
     let has : HasRoom t = record { sound = v.sound; room = count; left = last } in
     let full = slot-full t i b h has f short in
     record {
-      answer = loading.Loaded (record { serial = suc (last_in t); malformed = m });
+      answer = Ok (record { serial = suc (last_in t); malformed = m });
       after = loaded_run t (loaded_slot t i b h);
       is = pushed-load c t (loaded_run t (loaded_slot t i b h)) h m m (suc (last_in t)) i b v e refl refl (slot_placed t (loaded_slot t i b h) i b h has full (slot-written t i b h has f short) own) changes;
       past = loaded-past t (loaded_slot t i b h) v.sound full count last;

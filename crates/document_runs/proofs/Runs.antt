@@ -1,4 +1,9 @@
 -- A run of the code over a list of calls has the model's answers, lent runs and table, and the bytes of the definition. Assumes nothing.
+use Rattle.decisions.specs.declared.Decision.TheVariants as verdict
+use Rattle.decisions.specs.declared.Decision.{Decision}
+use Rattle.documents.specs.declared.LoadedDocument.{LoadedDocument}
+use Rattle.limits.specs.declared.Refusal.{Refusal}
+use Rattle.std.specs.Prelude.{Result, Ok, Err}
 use mathlib.Core.Path.{◌≡◌, refl, ap, sym, subst, ◌∙◌, fun_ext}
 use Prim.Native.Nat.{ℕ}
 use mathlib.Core.List.{List, [], ◌∷◌, ◌++◌}
@@ -8,16 +13,6 @@ use Rattle.document_model.specs.Model.{Table as ModelTable, Call, question, enab
 use Rattle.document_model.specs.Answering.{the_model, by_answers}
 use Rattle.document_model.proofs.Laws.{by-answers, asked-keeps, answers-end, answers_next, left_end, left-next, answers-are, table_is}
 use Rattle.document_table.specs.Layout.{view}
-use Rattle.documents.specs.declared.QuestionAnswer.{QuestionAnswer}
-use Rattle.documents.specs.declared.QuestionAnswer.TheVariants as asked
-use Rattle.documents.specs.declared.FeaturesAnswer.{FeaturesAnswer}
-use Rattle.documents.specs.declared.FeaturesAnswer.TheVariants as mask
-use Rattle.documents.specs.declared.LoadAnswer.{LoadAnswer}
-use Rattle.documents.specs.declared.LoadAnswer.TheVariants as load
-use Rattle.documents.specs.declared.UnloadAnswer.{UnloadAnswer}
-use Rattle.documents.specs.declared.UnloadAnswer.TheVariants as unload
-use Rattle.documents.specs.declared.ListingAnswer.{ListingAnswer}
-use Rattle.documents.specs.declared.ListingAnswer.TheVariants as listed
 use Rattle.documents.specs.Bytes.{changed, bytes_in, bytes_left}
 use Rattle.documents.specs.Answers.{Valid, question_in, features_in, load_in, unload_in, listing_in, bytes_of_new, Lists}
 use Rattle.document_runs.specs.Runs.{Step, load-top, load-framed, unloads, asks, enables, lists, forecasts, Steps, no_more, then, Run, AnsweredByCode, lent_run, runs_after}
@@ -70,26 +65,26 @@ step-valid (lists r h) v = v
 step-valid (forecasts r h) v = v
 
 -- the lent run is as the answer has it
-load-run : (r : LoadAnswer) → [] ≡ run_after (load_in r) []
-load-run (load.Loaded d) = refl
-load-run (load.Refused n) = refl
+load-run : (r : Result LoadedDocument Refusal) → [] ≡ run_after (load_in r) []
+load-run (Ok d) = refl
+load-run (Err n) = refl
 
-unload-run : (r : UnloadAnswer) → [] ≡ run_after (unload_in r) []
-unload-run (unload.Removed n) = refl
-unload-run (unload.Refused n) = refl
+unload-run : (r : Result ℕ Refusal) → [] ≡ run_after (unload_in r) []
+unload-run (Ok n) = refl
+unload-run (Err n) = refl
 
-question-run : (r : QuestionAnswer) → [] ≡ run_after (question_in r) []
-question-run asked.Enabled = refl
-question-run asked.Disabled = refl
-question-run (asked.Refused n) = refl
+question-run : (r : Result Decision Refusal) → [] ≡ run_after (question_in r) []
+question-run (Ok verdict.Enabled) = refl
+question-run (Ok verdict.Disabled) = refl
+question-run (Err n) = refl
 
-features-run : (r : FeaturesAnswer) → [] ≡ run_after (features_in r) []
-features-run (mask.Features m) = refl
-features-run (mask.Refused n) = refl
+features-run : (r : Result ℕ Refusal) → [] ≡ run_after (features_in r) []
+features-run (Ok m) = refl
+features-run (Err n) = refl
 
-listing-run : (c : Call) (t : List ℕ) (run after : List ℕ) (r : ListingAnswer) → Lists c t run after r → after ≡ run_after (listing_in r after) run
-listing-run c t run after (listed.Count n) h = refl
-listing-run c t run after (listed.Refused n) h = h.refusal n refl
+listing-run : (c : Call) (t : List ℕ) (run after : List ℕ) (r : Result ℕ Refusal) → Lists c t run after r → after ≡ run_after (listing_in r after) run
+listing-run c t run after (Ok n) h = refl
+listing-run c t run after (Err n) h = h.refusal n refl
 
 step_run : {c : Call} {t u : List ℕ} {a : Answer} {run : List ℕ} → Step c t a run u → run ≡ run_after a (lent_run c)
 step_run (load-top r h) = load-run r

@@ -1,4 +1,9 @@
 -- 01, "What demand 3 speaks of": lists of calls in code. "It starts from a new table, and each call gets the table that the one before it left, after a refusal too".
+use Rattle.decisions.specs.declared.Decision.{Decision}
+use Rattle.std.specs.Prelude.{Ok}
+use Rattle.documents.specs.declared.LoadedDocument.{LoadedDocument}
+use Rattle.limits.specs.declared.Refusal.{Refusal}
+use Rattle.std.specs.Prelude.{Result}
 use Rattle.std.specs.Prelude.{ℕ, ◌≡◌, true, List, [], ◌∷◌, ◌++◌, length}
 use Rattle.origins.specs.Origins.{origin_of}
 use Rattle.containers.specs.Attributes.{Attributes}
@@ -8,23 +13,17 @@ use Rattle.document_model.specs.Model.{Text, Call, top_load, framed_load, unload
 use Rattle.document_model.specs.History.{LoadedIn, BeneathIn}
 use Rattle.document_model.specs.Answering.{events_of, answer_at}
 use Rattle.document_model.specs.Claims.{OneMore, is_accepted, Keeps}
-use Rattle.documents.specs.declared.QuestionAnswer.{QuestionAnswer}
-use Rattle.documents.specs.declared.FeaturesAnswer.{FeaturesAnswer}
-use Rattle.documents.specs.declared.ListingAnswer.{ListingAnswer}
-use Rattle.documents.specs.declared.NewAnswer.TheVariants as made
-use Rattle.documents.specs.declared.LoadAnswer.{LoadAnswer}
-use Rattle.documents.specs.declared.UnloadAnswer.{UnloadAnswer}
 use Rattle.documents.specs.Answers.{question_in, features_in, load_in, unload_in, listing_in, IsNew, Decides, TellsFeatures, Loads, Unloads, Lists}
 
 -- one call in code: an instance of what its function ensures (the bounds of counts aside), with the bytes of the table that it got, its answer, the lent run of numbers afterwards (empty where none is lent) and the bytes of the table that it left
 pub data Step : Call → List ℕ → Answer → List ℕ → List ℕ → Type 0 where
-  load-top : {h o : Text} {t u : List ℕ} (r : LoadAnswer) → Loads (top_load h o) t u r → Step (top_load h o) t (load_in r) [] u
-  load-framed : {c : ℕ} {h o : Text} {a : Attributes} {t u : List ℕ} (r : LoadAnswer) → Loads (framed_load c h o a) t u r → Step (framed_load c h o a) t (load_in r) [] u
-  unloads : {s : ℕ} {t u : List ℕ} (r : UnloadAnswer) → Unloads (unload s) t u r → Step (unload s) t (unload_in r) [] u
-  asks : {s f : ℕ} {o : Text} {t : List ℕ} (r : QuestionAnswer) → Decides (question s f o) t r → Step (question s f o) t (question_in r) [] t
-  enables : {s : ℕ} {t : List ℕ} (r : FeaturesAnswer) → TellsFeatures (enabled_features s) t r → Step (enabled_features s) t (features_in r) [] t
-  lists : {s : ℕ} {run after t : List ℕ} (r : ListingAnswer) → Lists (listing s run) t run after r → Step (listing s run) t (listing_in r after) after t
-  forecasts : {c : ℕ} {a : Attributes} {t : List ℕ} (r : FeaturesAnswer) → TellsFeatures (forecast_of c a) t r → Step (forecast_of c a) t (features_in r) [] t
+  load-top : {h o : Text} {t u : List ℕ} (r : Result LoadedDocument Refusal) → Loads (top_load h o) t u r → Step (top_load h o) t (load_in r) [] u
+  load-framed : {c : ℕ} {h o : Text} {a : Attributes} {t u : List ℕ} (r : Result LoadedDocument Refusal) → Loads (framed_load c h o a) t u r → Step (framed_load c h o a) t (load_in r) [] u
+  unloads : {s : ℕ} {t u : List ℕ} (r : Result ℕ Refusal) → Unloads (unload s) t u r → Step (unload s) t (unload_in r) [] u
+  asks : {s f : ℕ} {o : Text} {t : List ℕ} (r : Result Decision Refusal) → Decides (question s f o) t r → Step (question s f o) t (question_in r) [] t
+  enables : {s : ℕ} {t : List ℕ} (r : Result ℕ Refusal) → TellsFeatures (enabled_features s) t r → Step (enabled_features s) t (features_in r) [] t
+  lists : {s : ℕ} {run after t : List ℕ} (r : Result ℕ Refusal) → Lists (listing s run) t run after r → Step (listing s run) t (listing_in r after) after t
+  forecasts : {c : ℕ} {a : Attributes} {t : List ℕ} (r : Result ℕ Refusal) → TellsFeatures (forecast_of c a) t r → Step (forecast_of c a) t (features_in r) [] t
 
 -- calls one after the other: the bytes of the table that they got, their answers, the lent runs afterwards, and the bytes of the table that they left
 pub data Steps : List Call → List ℕ → List Answer → List (List ℕ) → List ℕ → Type 0 where
@@ -35,7 +34,7 @@ pub data Steps : List Call → List ℕ → List Answer → List (List ℕ) → 
 pub record Run (cs : List Call) (l : List Answer) : Type 0 where
   pub lent : List ℕ
   pub start : List ℕ
-  pub new : IsNew lent start made.Ready
+  pub new : IsNew lent start (Ok tt)
   pub runs : List (List ℕ)
   pub left : List ℕ
   pub steps : Steps cs start l runs left

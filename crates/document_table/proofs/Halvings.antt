@@ -1,9 +1,10 @@
 -- Halvings end at the one place where a serial can stand. Assumes nothing.
+use Rattle.std.specs.Prelude.{Some}
 use mathlib.Core.Path.{◌≡◌, refl, ◌∙◌, sym, subst}
 use Prim.Native.Nat.{ℕ, zero, suc, ◌+◌, ◌-◌, ◌/◌, ◌≤◌, ◌<◌}
 use mathlib.Core.List.{List}
 use mathlib.Core.Bool.{Bool, true, false, ◌&&◌}
-use mathlib.Core.Option.{none}
+use Rattle.std.specs.Prelude.{None}
 use mathlib.Core.Logic.{⊎_elim}
 use native.Mathlib.Nat.{eq-or-lt_of_le}
 use native.Mathlib.Omega.{arith}
@@ -16,7 +17,6 @@ use Rattle.document_model.specs.Model.{Document, values_from, find}
 use Rattle.document_model.proofs.Laws.{find-on, find-end, found_at}
 use Rattle.document_table.specs.Layout.{count_in, serial_at, doc_at, docs_in}
 use Rattle.document_table.specs.Tables.{Ascends, IsFound, halved, Near}
-use Rattle.document_table.specs.declared.Found.TheVariants as found
 use Rattle.document_table.proofs.Laws.{doc-serial}
 
 module _ (run : List ℕ) (n s at half x : ℕ) (e : x ≡ serial_at run (at + half)) where
@@ -80,12 +80,12 @@ module _ (run : List ℕ) (n s : ℕ) (up : (i j : ℕ) → i < j → j < n → 
       (eq-or-lt_of_le (let z : k ≤ i = omega arith in z))
 
 -- no document has the serial
-none_from : (f : ℕ → Document) (n s : ℕ) → ((k : ℕ) → k < n → (f k).identity.serial ≡ s → ⊥) → (m j : ℕ) → j + m ≡ n → find s (values_from f j (n - j)) ≡ none
+none_from : (f : ℕ → Document) (n s : ℕ) → ((k : ℕ) → k < n → (f k).identity.serial ≡ s → ⊥) → (m j : ℕ) → j + m ≡ n → find s (values_from f j (n - j)) ≡ None
 none_from f n s never zero j e = find-end f n j s (omega arith)
 none_from f n s never (suc m) j e = find-on f n j s (omega arith) (never j (omega arith)) ∙ none_from f n s never m (j + 1) (omega arith)
 
-find_none : (f : ℕ → Document) (n s : ℕ) → ((k : ℕ) → k < n → (f k).identity.serial ≡ s → ⊥) → find s (values_from f 0 n) ≡ none
-find_none f n s never = let e : n - 0 ≡ n = omega arith in subst (λ (k : ℕ). find s (values_from f 0 k) ≡ none) e (none_from f n s never n 0 (omega arith))
+find_none : (f : ℕ → Document) (n s : ℕ) → ((k : ℕ) → k < n → (f k).identity.serial ≡ s → ⊥) → find s (values_from f 0 n) ≡ None
+find_none f n s never = let e : n - 0 ≡ n = omega arith in subst (λ (k : ℕ). find s (values_from f 0 k) ≡ None) e (none_from f n s never n 0 (omega arith))
 
 -- what `nearest` does in a turn and at its end
 module _ (run : List ℕ) (n s : ℕ) (asc : Ascends run) (counted : n ≡ count_in run) where
@@ -103,7 +103,7 @@ module _ (run : List ℕ) (s n i x : ℕ) (asc : Ascends run) (counted : n ≡ c
   up-docs : (j k : ℕ) → j < k → k < count_in run → (doc_at run j).identity.serial < (doc_at run k).identity.serial
   up-docs j k l m = let a = asc.up j k l m in omega (arith, doc-serial run j, doc-serial run k)
 
-  pub place_found : ltb i n && eqb x s ≡ true → IsFound run s (found.At i)
+  pub place_found : ltb i n && eqb x s ≡ true → IsFound run s (Some i)
   unfolding docs_in
   place_found t =
       let l : i < n = ltb-true i n (and_left (ltb i n) (eqb x s) t) in
@@ -114,7 +114,7 @@ module _ (run : List ℕ) (s n i x : ℕ) (asc : Ascends run) (counted : n ≡ c
         none_at = λ e. clash cc;
       }
 
-  pub place_none : ltb i n && eqb x s ≡ false → IsFound run s found.None
+  pub place_none : ltb i n && eqb x s ≡ false → IsFound run s None
   unfolding docs_in
   place_none t =
       record {

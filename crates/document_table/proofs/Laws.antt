@@ -11,7 +11,7 @@ use lib.Dec.{eqb}
 use lib.ListN.{length, drop}
 use Rattle.writing.specs.Writing.{with_text}
 use Rattle.limits.specs.Limits.{document_limit, last_serial}
-use Rattle.lent_bytes.specs.Numbers.{bytes_of, numbers_in, with_number, bytes_at}
+use Rattle.lent_bytes.specs.Numbers.{bytes_of, numbers_in, with_number}
 use Rattle.lent_bytes.proofs.Laws.{bytes-long, put-long, put-past, get-here, number-below, part-here}
 use Rattle.document_model.specs.Model.{new_table, values_from, elem, is_at_or_beneath}
 use Rattle.document_model.proofs.Laws.{at-or-beneath, values-at, values_length, values-none, values_same, values-snoc}
@@ -44,12 +44,6 @@ docs-length run = values_length (doc_at run) 0 (count_in run)
 pub docs-are : (run : List ℕ) → docs_in run ≡ values_from (doc_at run) 0 (count_in run)
 unfolding docs_in
 docs-are run = refl
-
--- its slot
-pub is-slot : (run u : List ℕ) (i p : ℕ) → Sound run → i < count_in run → p ≡ slot_place (slot_number run i) → u ≡ bytes_at run p slot_bytes → IsSlot run i u
-is-slot run u i p sound lt e f =
-    let w : u ≡ slot_of run (slot_number run i) = rw e at f in
-    record { is = w; good = rw w (sound.good i lt) }
 
 -- whether it has a serial or is beneath it
 pub goes-is : (run u : List ℕ) (i s m : ℕ) (b : Bool) → m ≡ serial_at run i → IsSlot run i u → b ≡ elem s (numbers_in (above_bytes u)) → (eqb m s || b) ≡ is_at_or_beneath s (doc_at run i).identity

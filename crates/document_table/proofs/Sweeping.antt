@@ -285,8 +285,8 @@ module _ (run : List ℕ) (s : ℕ) (l : List ℕ) (i k : ℕ) (w : Listing run 
       let e = beneath-is run u i s b false f g c in
       record { within = omega (arith, w.within); many = rw (serials-same (doc_at run) s i e) w.many; list = rw (serials-same (doc_at run) s i e) w.list }
 
-  pub are-serials : (n : ℕ) → n ≡ count_in run → i ≤ n → n ≤ i → count_in run ≤ document_limit → AreSerials run s (record { list = l; count = k })
+  pub are-serials : (n : ℕ) → n ≡ count_in run → i ≤ n → n ≤ i → count_in run ≤ document_limit → AreSerials run s k l
   unfolding docs_in
   are-serials n counted low high le =
       let e : i ≡ count_in run = omega arith in
-      record { count = omega (arith, w.within); many = rw e at w.many; list = rw e at w.list }
+      record { few = omega (arith, w.within); many = rw e at w.many; stands = rw e at w.list }

@@ -36,12 +36,8 @@ free_all before run i low high e = let q : i ≡ document_limit = omega arith in
 pub cleared : (run zero one two after t : List ℕ) → after ≡ with_text two slot_numbers_place (values_from (λ n. n) 0 document_limit) → two ≡ with_text one last_place (bytes_of 0) → one ≡ with_text zero count_place (bytes_of 0) → zero ≡ with_text run mark_place t → t ≡ mark → after ≡ new_run run
 cleared run zero one two after t e f g h k = rw (e, f, g, h, k) refl
 
-pub pushes-is : (run one two after : List ℕ) (n w l : ℕ) → after ≡ with_text two count_place (bytes_of (n + 1)) → two ≡ with_text one last_place (bytes_of (l + 1)) → one ≡ with_text run (serials_place + 4 * w) (bytes_of (l + 1))
-    → w ≡ n → l ≡ last_in run → n ≡ count_in run → after ≡ pushed run
-pushes-is run one two after n w l e f g h k m = rw (e, f, g, h, k, m) refl
-
 -- whether there is room for one more, as `push` tests it
-module _ (run : List ℕ) (n m l : ℕ) (counted : m ≡ count_in run) (same : n ≡ m) (is : l ≡ last_in run) where
+module _ (run : List ℕ) (n l : ℕ) (counted : n ≡ count_in run) (is : l ≡ last_in run) where
   pub room-count : ltb n document_limit && ltb l last_serial ≡ true → count_in run < document_limit
   room-count e = let h = ltb-true n document_limit (and_left (ltb n document_limit) (ltb l last_serial) e) in omega arith
 
@@ -50,11 +46,11 @@ module _ (run : List ℕ) (n m l : ℕ) (counted : m ≡ count_in run) (same : n
 
   pub pushed-on : (after : List ℕ) → ltb n document_limit && ltb l last_serial ≡ true → after ≡ pushed run → after ≡ pick (can_push run) (pushed run) run
   unfolding pick
-  pushed-on after e f = let t : can_push run ≡ true = rw (← counted, ← same, ← is) e in rw t f
+  pushed-on after e f = let t : can_push run ≡ true = rw (← counted, ← is) e in rw t f
 
   pub pushed-off : ltb n document_limit && ltb l last_serial ≡ false → run ≡ pick (can_push run) (pushed run) run
   unfolding pick
-  pushed-off e = let t : can_push run ≡ false = rw (← counted, ← same, ← is) e in rw t refl
+  pushed-off e = let t : can_push run ≡ false = rw (← counted, ← is) e in rw t refl
 
 pub moves-is : (run one two after : List ℕ) (k i s : ℕ) → after ≡ with_text two (slot_numbers_place + i) (slot_number run k ∷ []) → two ≡ with_text one (slot_numbers_place + k) (slot_number run i ∷ []) → one ≡ with_text run (serials_place + 4 * k) (bytes_of s)
     → s ≡ serial_at run i → after ≡ moved run k i

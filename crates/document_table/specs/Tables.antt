@@ -1,14 +1,12 @@
 -- What holds of a table in lent memory, and what the functions on it promise.
+use Rattle.std.specs.Prelude.{Option}
 use Rattle.std.specs.Prelude.{ℕ, ◌+◌, ◌≤◌, ◌<◌, ◌≡◌, List, ◌&&◌, ltb, leb, length, replicate}
-use Rattle.std.proofs.Math.Option.{some, none}
+use Rattle.std.specs.Prelude.{Some, None}
 use Rattle.ascii.specs.Bytes.{pick}
 use Rattle.limits.specs.Limits.{document_limit}
 use Rattle.document_model.specs.Model.{find, remaining, removed_count, serials_beneath, stored}
 use Rattle.document_records.specs.Slots.{GoodSlot}
 use Rattle.document_table.specs.Layout.{table_bytes, mark, mark_in, count_in, last_in, serial_at, slot_number, slot_of, doc_at, docs_in, removed_run}
-use Rattle.document_table.specs.declared.Found.{Found}
-use Rattle.document_table.specs.declared.Found.TheVariants as found
-use Rattle.document_table.specs.declared.Serials.{Serials}
 
 -- what the functions on a table need of its bytes: it is marked, each place of the directory has a slot of its own, and those of the documents are good
 pub record Sound (run : List ℕ) : Type 0 where
@@ -24,9 +22,9 @@ pub record Ascends (run : List ℕ) : Type 0 where
   pub up : (i j : ℕ) → i < j → j < count_in run → serial_at run i < serial_at run j
 
 -- a serial's place, and the document there; or the serial names none
-pub record IsFound (run : List ℕ) (serial : ℕ) (r : Found) : Type 0 where
-  pub some_at : (i : ℕ) → r ≡ found.At i → (i < count_in run) × (find serial (docs_in run) ≡ some (doc_at run i)) × (serial_at run i ≡ serial)
-  pub none_at : r ≡ found.None → find serial (docs_in run) ≡ none
+pub record IsFound (run : List ℕ) (serial : ℕ) (r : Option ℕ) : Type 0 where
+  pub some_at : (i : ℕ) → r ≡ Some i → (i < count_in run) × (find serial (docs_in run) ≡ Some (doc_at run i)) × (serial_at run i ≡ serial)
+  pub none_at : r ≡ None → find serial (docs_in run) ≡ None
 
 -- a halving: to the middle where the serial there isn't above the one that is sought
 unfoldable pub halved : List ℕ → ℕ → ℕ → ℕ → ℕ → ℕ
@@ -56,7 +54,7 @@ abbrev pub no_serials : List ℕ
 no_serials = replicate document_limit 0
 
 -- the serials beneath a document, 0 in the places after them, and how many they are
-pub record AreSerials (run : List ℕ) (serial : ℕ) (r : Serials) : Type 0 where
-  pub count : r.count ≤ document_limit
-  pub many : r.count ≡ length (serials_beneath serial (docs_in run))
-  pub list : r.list ≡ stored (serials_beneath serial (docs_in run)) no_serials
+pub record AreSerials (run : List ℕ) (serial count : ℕ) (list : List ℕ) : Type 0 where
+  pub few : count ≤ document_limit
+  pub many : count ≡ length (serials_beneath serial (docs_in run))
+  pub stands : list ≡ stored (serials_beneath serial (docs_in run)) no_serials

@@ -1,4 +1,5 @@
 -- The question: what the two numbers of a slot say, and what is left for its lists, in the terms of the code. Assumes nothing.
+use Rattle.std.specs.Prelude.{Option, Some, None, unwrap_or}
 use mathlib.Core.Path.{◌≡◌, refl, ap, ◌∙◌, sym}
 use Prim.Native.Nat.{ℕ, ◌<◌}
 use mathlib.Core.List.{List}
@@ -20,9 +21,6 @@ use Rattle.origins.specs.declared.OriginText.TheVariants as said
 use Rattle.origins.specs.declared.OriginRange.TheVariants as range
 use Rattle.origins.specs.declared.TupleRange.{TupleRange}
 use Rattle.allowlists.specs.Allowlists.{some_admits}
-use Rattle.allowlists.specs.Answers.{admission_as, admission_in}
-use Rattle.allowlists.specs.declared.Admission.{Admission}
-use Rattle.allowlists.proofs.Laws.{admission-back}
 use Rattle.decisions.specs.Decisions.{Decision, decided, by_list}
 use Rattle.decisions.specs.Decisions.Decision.{disabled, enabled}
 use Rattle.decisions.specs.Masks.{decision_at}
@@ -58,6 +56,13 @@ module _ (slot : List ℕ) (n m : ℕ) (g : GoodSlot slot) (f : n < feature_coun
   every-bit : m ≡ number_at slot everywhere_place → decision_at m n ≡ question_in (slot_policy slot) n fresh
   every-bit e = ap (λ (x : ℕ). decision_at x n) (e ∙ g.everywhere) ∙ mask_at (λ k. question_in (slot_policy slot) k fresh) n f
 
+-- what a list answers, and Disabled without one
+or-disabled : (w : Option Bool) (r : Bool) → r ≡ unwrap_or w false → decided r ≡ by_list w disabled
+unfolding decided by_list
+or-disabled (Some true) r e = rw e
+or-disabled (Some false) r e = rw e
+or-disabled None r e = rw e
+
 -- a tuple origin
 module _ (slot : List ℕ) (n : ℕ) (t : List ℕ) (o : TupleRange) (a : AskedTuple slot n t o) (u : List ℕ) (b : Bool) (eu : u ≡ own_text slot) (eb : b ≡ same_bytes u t) where
   pub tuple-own : (m : ℕ) (r : Bool) → b ≡ true → m ≡ number_at slot enabled_place → r ≡ bit_at m n → decided r ≡ question_in (slot_policy slot) n (tuple (tuple_in t o))
@@ -73,7 +78,7 @@ module _ (slot : List ℕ) (n : ℕ) (t : List ℕ) (o : TupleRange) (a : AskedT
     pub tuple-off : not h ≡ true → decided false ≡ question_in (slot_policy slot) n (tuple (tuple_in t o))
     tuple-off x = decided-off ∙ sym (disabled-question (slot_policy slot) n (tuple (tuple_in t o)) (inherited-is disabled (bit-clear m n h eh (not-true h x))))
 
-    pub tuple-list : (d : List ℕ) (w : Admission) (r : Bool) → not h ≡ false → d ≡ settled_in slot → w ≡ admission_as (some_admits (declared_in d n) false false (origin_in t (range.Tuple o))) → decided r ≡ by_list (admission_in w) disabled
+    pub tuple-list : (d : List ℕ) (w : Option Bool) (r : Bool) → not h ≡ false → d ≡ settled_in slot → w ≡ some_admits (declared_in d n) false false (origin_in t (range.Tuple o)) → r ≡ unwrap_or w false
         → decided r ≡ question_in (slot_policy slot) n (tuple (tuple_in t o))
     tuple-list d w r x ed ew er =
         let p = slot_policy slot in
@@ -81,37 +86,30 @@ module _ (slot : List ℕ) (n : ℕ) (t : List ℕ) (o : TupleRange) (a : AskedT
         let apart : same_origin (slot_policy slot).own (tuple (tuple_in t o)) ≡ false =
         rw (slot-own slot) (own-other (own_text slot) t (number_at slot opaque_place) (tuple_in t o) (origin_of (own_text slot)) refl a.says (rw (← eu, ← eb) no)) in
         let on : (slot_policy slot).inherited n ≡ enabled = inherited-is enabled (bit-set m n h eh (not-false h x)) in
-        let listed : admission_in w ≡ some_admits ((slot_policy slot).declared n) false false (tuple (tuple_in t o)) =
-        ap admission_in ew ∙ (admission-back (some_admits (declared_in d n) false false (tuple (tuple_in t o))) ∙ rw (ed, ← (slot-declared slot n)) refl) in
-        er ∙ (ap (λ (y : _). by_list y disabled) listed ∙ sym (other-by-list p n z a.rest apart on))
+        let listed : w ≡ some_admits ((slot_policy slot).declared n) false false (tuple (tuple_in t o)) = ew ∙ rw (ed, ← (slot-declared slot n)) refl in
+        or-disabled w r er ∙ (ap (λ (y : _). by_list y disabled) listed ∙ sym (other-by-list p n z a.rest apart on))
 
 -- what the answer to an origin text says of the text
-said-empty : (x : OriginSaid) → said.Empty ≡ origin_as x → x ≡ says_empty
+said-empty : (x : OriginSaid) → (Some said.Empty) ≡ origin_as x → x ≡ says_empty
 said-empty says_empty e = refl
 said-empty says_null e = clash cc
 said-empty (says_tuple o) e = clash cc
 said-empty no_origin e = clash cc
 
-said-null : (x : OriginSaid) → said.Null ≡ origin_as x → x ≡ says_null
+said-null : (x : OriginSaid) → (Some said.Null) ≡ origin_as x → x ≡ says_null
 said-null says_empty e = clash cc
 said-null says_null e = refl
 said-null (says_tuple o) e = clash cc
 said-null no_origin e = clash cc
 
-said-bad : (x : OriginSaid) → said.NotAnOrigin ≡ origin_as x → x ≡ no_origin
-said-bad says_empty e = clash cc
-said-bad says_null e = clash cc
-said-bad (says_tuple o) e = clash cc
-said-bad no_origin e = refl
-
-said-tuple : (t : List ℕ) (r : TupleRange) (x : OriginSaid) → origin_of t ≡ x → said.Tuple r ≡ origin_as x → origin_of t ≡ says_tuple (tuple_in t r)
+said-tuple : (t : List ℕ) (r : TupleRange) (x : OriginSaid) → origin_of t ≡ x → (Some (said.Tuple r)) ≡ origin_as x → origin_of t ≡ says_tuple (tuple_in t r)
 said-tuple t r says_empty u e = clash cc
 said-tuple t r says_null u e = clash cc
 said-tuple t r (says_tuple o) u e = let k : r ≡ tuple_range o = cc in u ∙ ap says_tuple (sym (rw k (tuple-range t o u)))
 said-tuple t r no_origin u e = clash cc
 
 -- the question
-module _ (slot : List ℕ) (n : ℕ) (t : List ℕ) (o : OriginText) (g : GoodSlot slot) (f : n < feature_count) (eo : o ≡ origin_as (origin_of t)) (m : ℕ) (b : Bool) (em : m ≡ number_at slot everywhere_place) (eb : b ≡ bit_at m n) where
+module _ (slot : List ℕ) (n : ℕ) (t : List ℕ) (y : OriginText) (g : GoodSlot slot) (f : n < feature_count) (eo : Some y ≡ origin_as (origin_of t)) (m : ℕ) (b : Bool) (em : m ≡ number_at slot everywhere_place) (eb : b ≡ bit_at m n) where
   pub at_every : b ≡ true → decided true ≡ question_in (slot_policy slot) n (asked_at (origin_of t) (own_origin slot))
   at_every hit = decided-on ∙ sym (fresh-every (slot_policy slot) n (asked_at (origin_of t) (own_origin slot)) (sym (every-bit slot n m g f em) ∙ bit-set m n b eb hit))
 
@@ -119,17 +117,14 @@ module _ (slot : List ℕ) (n : ℕ) (t : List ℕ) (o : OriginText) (g : GoodSl
     rest : question_in (slot_policy slot) n fresh ≡ disabled
     rest = sym (every-bit slot n m g f em) ∙ bit-clear m n b eb no
 
-    pub at-empty : (k : ℕ) (r : Bool) → o ≡ said.Empty → k ≡ number_at slot enabled_place → r ≡ bit_at k n → decided r ≡ question_in (slot_policy slot) n (asked_at (origin_of t) (own_origin slot))
-    at-empty k r e ek er = rw (said-empty (origin_of t) (sym e ∙ eo)) (bit-says k n r er ∙ enabled-bit slot n k g f ek)
+    pub at-empty : (k : ℕ) (r : Bool) → y ≡ said.Empty → k ≡ number_at slot enabled_place → r ≡ bit_at k n → decided r ≡ question_in (slot_policy slot) n (asked_at (origin_of t) (own_origin slot))
+    at-empty k r e ek er = rw (said-empty (origin_of t) (sym (ap Some e) ∙ eo)) (bit-says k n r er ∙ enabled-bit slot n k g f ek)
 
-    pub at_null : o ≡ said.Null → decided false ≡ question_in (slot_policy slot) n (asked_at (origin_of t) (own_origin slot))
-    at_null e = rw (said-null (origin_of t) (sym e ∙ eo)) (decided-off ∙ sym rest)
+    pub at_null : y ≡ said.Null → decided false ≡ question_in (slot_policy slot) n (asked_at (origin_of t) (own_origin slot))
+    at_null e = rw (said-null (origin_of t) (sym (ap Some e) ∙ eo)) (decided-off ∙ sym rest)
 
-    pub at-bad : o ≡ said.NotAnOrigin → decided false ≡ question_in (slot_policy slot) n (asked_at (origin_of t) (own_origin slot))
-    at-bad e = rw (said-bad (origin_of t) (sym e ∙ eo)) (decided-off ∙ sym rest)
+    pub at_tuple : (x : TupleRange) (r : Bool) → y ≡ said.Tuple x → decided r ≡ question_in (slot_policy slot) n (tuple (tuple_in t x)) → decided r ≡ question_in (slot_policy slot) n (asked_at (origin_of t) (own_origin slot))
+    at_tuple x r e h = rw (said-tuple t x (origin_of t) refl (sym (ap Some e) ∙ eo)) h
 
-    pub at_tuple : (x : TupleRange) (r : Bool) → o ≡ said.Tuple x → decided r ≡ question_in (slot_policy slot) n (tuple (tuple_in t x)) → decided r ≡ question_in (slot_policy slot) n (asked_at (origin_of t) (own_origin slot))
-    at_tuple x r e h = rw (said-tuple t x (origin_of t) refl (sym e ∙ eo)) h
-
-    pub asks-tuple : (x : TupleRange) → o ≡ said.Tuple x → AskedTuple slot n t x
-    asks-tuple x e = record { good = g; feature = f; says = said-tuple t x (origin_of t) refl (sym e ∙ eo); rest = rest }
+    pub asks-tuple : (x : TupleRange) → y ≡ said.Tuple x → AskedTuple slot n t x
+    asks-tuple x e = record { good = g; feature = f; says = said-tuple t x (origin_of t) refl (sym (ap Some e) ∙ eo); rest = rest }

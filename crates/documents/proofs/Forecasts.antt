@@ -1,8 +1,10 @@
 -- What each return of a forecast answers, in the terms of the code. Assumes nothing.
+use Rattle.std.specs.Prelude.{Some, None}
+use Rattle.std.specs.Prelude.{Option, is_some}
 use mathlib.Core.Path.{◌≡◌, refl, ap, sym, ◌∙◌}
 use Prim.Native.Nat.{ℕ, ◌≤◌, ◌<◌}
 use mathlib.Core.List.{List}
-use mathlib.Core.Bool.{Bool, true, false, ◌&&◌}
+use mathlib.Core.Bool.{Bool, true, false, ◌&&◌, not}
 use lib.ListN.{length}
 use borrow.Author.Tests.{le-leb, lt-leb}
 use Rattle.limits.specs.Limits.{text_bytes}
@@ -18,13 +20,10 @@ use Rattle.containers.specs.Attributes.{Attributes}
 use Rattle.containers.specs.Policies.{container_policy}
 use Rattle.document_model.proofs.Parts.{frame-declared}
 use Rattle.document_model.proofs.RowByRow.{answer-of, forecast-long, forecast-bad, forecast-closed, forecast-answer}
-use Rattle.document_table.specs.declared.Found.{Found}
-use Rattle.document_table.specs.declared.Found.TheVariants as found
 use Rattle.document_table.specs.Layout.{serial_at, doc_at, view}
 use Rattle.document_table.specs.Tables.{IsFound, IsSlot}
 use Rattle.document_loads.specs.declared.FrameMarks.{FrameMarks}
 use Rattle.document_loads.specs.Loads.{attributes, Foretells}
-use Rattle.documents.specs.Steps.{is_bad}
 use Rattle.documents.proofs.Answering.{good-is, slot-document, slot-is-policy}
 
 -- a frame's policy and declared origin don't ask for the container's serial
@@ -50,19 +49,19 @@ module _ (t : List ℕ) (s : ℕ) (allow : List ℕ) (marks : FrameMarks) (sandb
       short : is_short allow && is_short sandbox ≡ true
       short = rw (le-leb (length allow) text_bytes fits, le-leb (length sandbox) text_bytes too)
 
-      module _ (x : OriginText) (b : Bool) (read : x ≡ origin_as (origin_of src)) (tested : b ≡ is_bad x) where
+      module _ (x : Option OriginText) (b : Bool) (read : x ≡ origin_as (origin_of src)) (tested : is_some x ≡ not b) where
         pub forecast-origin : b ≡ true → refused 3 ≡ answer_to (forecast_of s (attributes allow marks sandbox src)) (view t)
         forecast-origin k =
             let a = attributes allow marks sandbox src in
             sym (answer-of (forecast_of s a) (view t) (refuse BadOrigin) (forecast-bad s a (view t) short (good-is src x b true read tested k)))
 
-        module _ (good : b ≡ false) (f : Found) (h : IsFound t s f) where
-          pub refused-forecast : f ≡ found.None → refused 1 ≡ answer_to (forecast_of s (attributes allow marks sandbox src)) (view t)
+        module _ (good : b ≡ false) (f : Option ℕ) (h : IsFound t s f) where
+          pub refused-forecast : f ≡ None → refused 1 ≡ answer_to (forecast_of s (attributes allow marks sandbox src)) (view t)
           refused-forecast k =
               let a = attributes allow marks sandbox src in
               sym (answer-of (forecast_of s a) (view t) (refuse NotLoaded) (forecast-closed s a (view t) short (good-is src x b false read tested good) (h.none_at k)))
 
-          pub answered-forecast : (i : ℕ) (c : List ℕ) (m : ℕ) → f ≡ found.At i → IsSlot t i c → Foretells c (attributes allow marks sandbox src) m
+          pub answered-forecast : (i : ℕ) (c : List ℕ) (m : ℕ) → f ≡ Some i → IsSlot t i c → Foretells c (attributes allow marks sandbox src) m
               → features m ≡ answer_to (forecast_of s (attributes allow marks sandbox src)) (view t)
           answered-forecast i c m k e says =
               let a = attributes allow marks sandbox src in

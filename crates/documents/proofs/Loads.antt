@@ -1,4 +1,6 @@
 -- What each return of a load answers, in the terms of the code. Assumes nothing.
+use Rattle.std.specs.Prelude.{Ok, Err}
+use Rattle.std.specs.Prelude.{Option}
 use mathlib.Core.Path.{◌≡◌, refl, ap, sym, ◌∙◌}
 use Prim.Native.Nat.{ℕ, suc, ◌+◌, ◌≤◌, ◌<◌}
 use native.Mathlib.Omega.{arith}
@@ -27,10 +29,7 @@ use Rattle.document_table.proofs.Laws.{docs-length}
 use Rattle.document_loads.specs.declared.NewDocument.{NewDocument}
 use Rattle.document_loads.specs.Slots.{written}
 use Rattle.document_loads.specs.Loads.{IsTopDocument}
-use Rattle.documents.specs.declared.Room.{Room}
-use Rattle.documents.specs.declared.Room.TheVariants as room
 use Rattle.documents.specs.declared.LoadedDocument.{LoadedDocument}
-use Rattle.documents.specs.declared.LoadAnswer.TheVariants as loading
 use Rattle.documents.specs.Bytes.{newest, no_document, with_newest, changed}
 use Rattle.documents.specs.Answers.{Valid, Loads}
 use Rattle.documents.specs.Steps.{is_bad_at_top, HasRoom, IsRoom, Placed, Places}
@@ -42,7 +41,7 @@ module _ (t : List ℕ) (n : ℕ) (counted : n ≡ count_in t) where
   many : length (docs_in t) ≡ count_in t
   many = docs-length t
 
-  pub room-full : (b : Bool) → b ≡ leb document_limit n → b ≡ true → IsRoom t (room.Refused Full)
+  pub room-full : (b : Bool) → b ≡ leb document_limit n → b ≡ true → IsRoom t (Err Full)
   room-full b f g =
       let le : document_limit ≤ length (docs_in t) = omega (arith, many, leb-true document_limit n (sym f ∙ g)) in
       record { none = λ x e m d i. (let q : Full ≡ x = cc in load_full (view t) m d i le ∙ ap refuse q); serial = λ s e. clash cc }
@@ -51,18 +50,18 @@ module _ (t : List ℕ) (n : ℕ) (counted : n ≡ count_in t) where
     below : n < document_limit
     below = leb-false document_limit n (sym f ∙ g)
 
-    pub room-spent : last_serial ≤ last → IsRoom t (room.Refused Spent)
+    pub room-spent : last_serial ≤ last → IsRoom t (Err Spent)
     room-spent k =
         let lt : length (docs_in t) < document_limit = omega (arith, many, below) in
         let less : last_serial < suc (last_in t) = omega arith in
         record { none = λ x e m d i. (let q : Spent ≡ x = cc in load-spent (view t) m d i lt less ∙ ap refuse q); serial = λ s e. clash cc }
 
-    pub room-serial : last < last_serial → IsRoom t (room.Serial (last + 1))
+    pub room-serial : last < last_serial → IsRoom t (Ok (last + 1))
     room-serial k = record { none = λ x e m d i. clash cc; serial = λ s e. (let w : last + 1 ≡ s = cc in (sym w ∙ (add-one last ∙ ap suc is), omega (arith, below), omega arith)) }
 
 -- ---- loads
 
-pub refused-load : (c : Call) (t : List ℕ) (n : Refusal) → Valid t → outcome c (view t) ≡ refuse n → Loads c t t (loading.Refused n)
+pub refused-load : (c : Call) (t : List ℕ) (n : Refusal) → Valid t → outcome c (view t) ≡ refuse n → Loads c t t (Err n)
 refused-load c t n valid e =
     record { valid = valid; answer = sym (answer-of c (view t) (refuse n) e); table = sym (table_of c (view t) (refuse n) e); bytes = sym (bytes-of c t (refuse n) e) }
 
@@ -75,7 +74,7 @@ newest-last (y ∷ l) d x = newest-last l y x
 pub pushed-load : (c : Call) (t u h : List ℕ) (m k : Bool) (n : ℕ) (i : Identity) (b : ℕ) → Valid t
     → outcome c (view t) ≡ accept (loaded (suc (last_in t)) m) (record { docs = docs_in t ++ (record { identity = i; inherited = b; declared = declared_by h } ∷ []); next = suc (suc (last_in t)) })
     → n ≡ suc (last_in t) → k ≡ m → Placed t i b h u → ((x : ModelTable) → changed c x t ≡ with_newest t x h)
-    → Loads c t u (loading.Loaded (record { serial = n; malformed = k }))
+    → Loads c t u (Ok (record { serial = n; malformed = k }))
 pushed-load c t u h m k n i b valid e q w p changes =
     let x : ModelDocument = record { identity = i; inherited = b; declared = declared_by h } in
     let after : ModelTable = record { docs = docs_in t ++ (record { identity = i; inherited = b; declared = declared_by h } ∷ []); next = suc (suc (last_in t)) } in
@@ -97,7 +96,7 @@ pushed-load c t u h m k n i b valid e q w p changes =
 pub accepted-load : (c : Call) (t u h : List ℕ) (m k : Bool) (n : ℕ) (document : Identity → ModelDocument) (identity : ℕ → Identity) (i : Identity) (b : ℕ) → Valid t → outcome c (view t) ≡ load_of (view t) m document identity
     → count_in t < document_limit → last_in t < last_serial → n ≡ suc (last_in t) → k ≡ m → ◌≡◌ {A = ModelDocument} (record { identity = i; inherited = b; declared = declared_by h }) (document (identity (suc (last_in t)))) → Placed t i b h u
     → ((x : ModelTable) → changed c x t ≡ with_newest t x h)
-    → Loads c t u (loading.Loaded (record { serial = n; malformed = k }))
+    → Loads c t u (Ok (record { serial = n; malformed = k }))
 accepted-load c t u h m k n document identity i b valid e room left q w is p changes =
     let lt : length (docs_in t) < document_limit = omega (arith, docs-length t) in
     let o = e ∙ (load-answer (view t) m document identity lt (omega arith) ∙ ap (λ (y : ModelDocument). accept (loaded (suc (last_in t)) m) (record { docs = docs_in t ++ (y ∷ []); next = suc (suc (last_in t)) })) (sym is)) in
@@ -111,32 +110,32 @@ top-good says_null = refl
 top-good (says_tuple p) = refl
 top-good no_origin = refl
 
-good-at-top : (o : Text) (x : OriginText) (b c : Bool) → x ≡ origin_as (origin_of o) → b ≡ is_bad_at_top x → b ≡ c → is_good_at_top (origin_of o) ≡ not c
+good-at-top : (o : Text) (x : Option OriginText) (b c : Bool) → x ≡ origin_as (origin_of o) → b ≡ is_bad_at_top x → b ≡ c → is_good_at_top (origin_of o) ≡ not c
 good-at-top o x b c e h k = sym (top-good (origin_of o)) ∙ ap not (ap is_bad_at_top (sym e) ∙ (sym h ∙ k))
 
 module _ (t : List ℕ) (h o : Text) (valid : Valid t) where
-  pub top_header : text_bytes < length h → Loads (top_load h o) t t (loading.Refused TooLong)
+  pub top_header : text_bytes < length h → Loads (top_load h o) t t (Err TooLong)
   top_header lt = refused-load (top_load h o) t TooLong valid (top-long h o (view t) (lt-leb (length h) text_bytes lt))
 
-  module _ (le : length h ≤ text_bytes) (x : OriginText) (b : Bool) (read : x ≡ origin_as (origin_of o)) (tested : b ≡ is_bad_at_top x) where
-    pub top-origin : b ≡ true → Loads (top_load h o) t t (loading.Refused BadOrigin)
+  module _ (le : length h ≤ text_bytes) (x : Option OriginText) (b : Bool) (read : x ≡ origin_as (origin_of o)) (tested : b ≡ is_bad_at_top x) where
+    pub top-origin : b ≡ true → Loads (top_load h o) t t (Err BadOrigin)
     top-origin k = refused-load (top_load h o) t BadOrigin valid (top_bad h o (view t) (le-leb (length h) text_bytes le) (good-at-top o x b true read tested k))
 
-    module _ (good : b ≡ false) (r : Room) (is : IsRoom t r) where
+    module _ (good : b ≡ false) where
       top-is-load : outcome (top_load h o) (view t) ≡ load_of (view t) (is_malformed h) (top_document h) (top_identity (origin_of o))
       top-is-load = top-load h o (view t) (le-leb (length h) text_bytes le) (good-at-top o x b false read tested good)
 
-      pub top-refused : (n : Refusal) → r ≡ room.Refused n → Loads (top_load h o) t t (loading.Refused n)
-      top-refused n k = refused-load (top_load h o) t n valid (top-is-load ∙ is.none n k (is_malformed h) (top_document h) (top_identity (origin_of o)))
+      pub top-refused : (n : Refusal) → IsRoom t (Err n) → Loads (top_load h o) t t (Err n)
+      top-refused n is = refused-load (top_load h o) t n valid (top-is-load ∙ is.none n refl (is_malformed h) (top_document h) (top_identity (origin_of o)))
 
-      pub top-accepted : (n : ℕ) (d : NewDocument) (u : List ℕ) (l : LoadedDocument) → r ≡ room.Serial n → IsTopDocument o n d → Places t d h u l × (l.serial ≡ n) → Loads (top_load h o) t u (loading.Loaded l)
-      top-accepted n d u l k top p =
-          let s = is.serial n k in
+      pub top-accepted : (n : ℕ) (d : NewDocument) (u : List ℕ) (l : LoadedDocument) → IsRoom t (Ok n) → IsTopDocument o n d → Places t d h u l × (l.serial ≡ n) → Loads (top_load h o) t u (Ok l)
+      top-accepted n d u l is top p =
+          let s = is.serial n refl in
           let own : (top_identity (origin_of o) n).serial ≡ suc (last_in t) = rw (top-identity (origin_of o) n) s.0 in
           let few : length (top_identity (origin_of o) n).above < document_limit = rw (top-identity (origin_of o) n) (omega arith) in
           accepted-load (top_load h o) t u h (is_malformed h) l.malformed l.serial (top_document h) (top_identity (origin_of o)) (top_identity (origin_of o) n) (mask_of (λ j. inherited_top)) valid top-is-load s.1 s.2 (p.1 ∙ s.0) p.0.malformed
           (sym (top-document h (top_identity (origin_of o) n)) ∙ ap (λ (j : ℕ). top_document h (top_identity (origin_of o) j)) s.0)
           (p.0.says (top_identity (origin_of o) n) (mask_of (λ j. inherited_top)) top own few) (λ y. refl)
 
-pub has_room : (t : List ℕ) (r : Room) (n : ℕ) → Valid t → IsRoom t r → r ≡ room.Serial n → HasRoom t
-has_room t r n v is k = record { sound = v.sound; room = (is.serial n k).1; left = (is.serial n k).2 }
+pub has_room : (t : List ℕ) (n : ℕ) → Valid t → IsRoom t (Ok n) → HasRoom t
+has_room t n v is = record { sound = v.sound; room = (is.serial n refl).1; left = (is.serial n refl).2 }

@@ -1,4 +1,7 @@
 -- What the functions under the calls promise: parts of a call's answer, told what its texts say. A record that is told what a text says speaks only of calls whose text reads so, and leaves the answer open for others.
+use Rattle.std.specs.Prelude.{Ok, Err, ⊤}
+use Rattle.std.specs.Prelude.{Result}
+use Rattle.std.specs.Prelude.{Option, Some, None}
 use Rattle.std.specs.Prelude.{ℕ, suc, ◌+◌, ◌/◌, ◌%◌, ◌^◌, ◌≤◌, ◌<◌, ◌≡◌, List, [], ◌∷◌, ◌++◌, eqb, length, Bool, true, false, ◌&&◌}
 use Rattle.limits.specs.Limits.{text_bytes, document_limit, last_serial}
 use Rattle.limits.specs.declared.Refusal.{Refusal}
@@ -18,19 +21,12 @@ use Rattle.containers.specs.Attributes.{Attributes}
 use Rattle.document_model.specs.Model.{Text, Table as ModelTable, Identity, Document as ModelDocument, declared_by, is_good_origin, is_short, framed_load, refuse, load as load_of, outcome, framed_document, framed_identity}
 use Rattle.document_table.specs.Layout.{count_in, last_in, serial_at, slot_number, slot_of, doc_at, docs_in, view, loaded_run}
 use Rattle.document_table.specs.Tables.{Sound}
-use Rattle.document_loads.specs.declared.FrameMarks.{FrameMarks}
+use Rattle.document_records.specs.declared.Frame.{Frame}
 use Rattle.document_loads.specs.declared.NewDocument.{NewDocument}
-use Rattle.document_loads.specs.Loads.{attributes}
+use Rattle.document_loads.specs.Loads.{attributes_of}
 use Rattle.document_loads.specs.Slots.{written, IsNewDocument}
-use Rattle.documents.specs.declared.Room.{Room}
-use Rattle.documents.specs.declared.Room.TheVariants as room
-use Rattle.documents.specs.declared.Texts.{Texts}
-use Rattle.documents.specs.declared.Texts.TheVariants as texts
-use Rattle.documents.specs.declared.LoadAnswer.{LoadAnswer}
 use Rattle.documents.specs.declared.LoadedDocument.{LoadedDocument}
 use Rattle.documents.specs.declared.FramePlace.{FramePlace}
-use Rattle.documents.specs.declared.FrameRoom.{FrameRoom}
-use Rattle.documents.specs.declared.FrameRoom.TheVariants as frame
 use Rattle.documents.specs.Answers.{Valid, Loads}
 
 -- bit n of a number
@@ -44,26 +40,19 @@ pub record AskedTuple (slot : List ℕ) (n : ℕ) (text : List ℕ) (r : TupleRa
   pub says : origin_of text ≡ says_tuple (tuple_in text r)
   pub rest : question_in (slot_policy slot) n fresh ≡ disabled
 
--- an origin text that is none
-abbrev pub is_bad : OriginText → Bool
-is_bad said.Empty = false
-is_bad said.Null = false
-is_bad (said.Tuple r) = false
-is_bad said.NotAnOrigin = true
-
 -- an origin text that is none for a top-level load
-abbrev pub is_bad_at_top : OriginText → Bool
-is_bad_at_top said.Empty = true
-is_bad_at_top said.Null = false
-is_bad_at_top (said.Tuple r) = false
-is_bad_at_top said.NotAnOrigin = true
+abbrev pub is_bad_at_top : Option OriginText → Bool
+is_bad_at_top (Some said.Empty) = true
+is_bad_at_top (Some said.Null) = false
+is_bad_at_top (Some (said.Tuple r)) = false
+is_bad_at_top None = true
 
 -- refusal 5: a sandboxed document with an origin text other than `null`
-abbrev pub is_barred : Bool → OriginText → Bool
-is_barred b said.Empty = b
-is_barred b said.Null = false
-is_barred b (said.Tuple r) = b
-is_barred b said.NotAnOrigin = b
+abbrev pub is_barred : Bool → Option OriginText → Bool
+is_barred b (Some said.Empty) = b
+is_barred b (Some said.Null) = false
+is_barred b (Some (said.Tuple r)) = b
+is_barred b None = b
 
 -- room for one more, and a serial for it
 pub record HasRoom (run : List ℕ) : Type 0 where
@@ -72,9 +61,9 @@ pub record HasRoom (run : List ℕ) : Type 0 where
   pub left : last_in run < last_serial
 
 -- refusals 6 and 7 of every load, or its serial
-pub record IsRoom (run : List ℕ) (r : Room) : Type 0 where
-  pub none : (n : Refusal) → r ≡ room.Refused n → (m : Bool) (document : Identity → ModelDocument) (identity : ℕ → Identity) → load_of (view run) m document identity ≡ refuse n
-  pub serial : (s : ℕ) → r ≡ room.Serial s → (s ≡ suc (last_in run)) × (count_in run < document_limit) × (last_in run < last_serial)
+pub record IsRoom (run : List ℕ) (r : Result ℕ Refusal) : Type 0 where
+  pub none : (n : Refusal) → r ≡ Err n → (m : Bool) (document : Identity → ModelDocument) (identity : ℕ → Identity) → load_of (view run) m document identity ≡ refuse n
+  pub serial : (s : ℕ) → r ≡ Ok s → (s ≡ suc (last_in run)) × (count_in run < document_limit) × (last_in run < last_serial)
 
 -- a document was written into the first free slot, and has the next serial
 pub record Placed (before : List ℕ) (i : Identity) (inherited : ℕ) (h : Text) (after : List ℕ) : Type 0 where
@@ -95,9 +84,9 @@ pub record GoodTexts (h o : Text) (a : Attributes) : Type 0 where
   pub src : is_good_origin (origin_of a.src) ≡ true
 
 -- refusals 4 and 3 of every framed load with such texts, or that they are good
-pub record AreTexts (h allow sandbox : List ℕ) (x y : OriginText) (r : Texts) : Type 0 where
-  pub refuses : (n : Refusal) → r ≡ texts.Refused n → (s : ℕ) (o : Text) (a : Attributes) (t : ModelTable) → a.allow ≡ allow → a.sandbox ≡ sandbox → x ≡ origin_as (origin_of o) → y ≡ origin_as (origin_of a.src) → outcome (framed_load s h o a) t ≡ refuse n
-  pub good : r ≡ texts.Good → (o : Text) (a : Attributes) → a.allow ≡ allow → a.sandbox ≡ sandbox → x ≡ origin_as (origin_of o) → y ≡ origin_as (origin_of a.src) → GoodTexts h o a
+pub record AreTexts (h allow sandbox : List ℕ) (x y : Option OriginText) (r : Result ⊤ Refusal) : Type 0 where
+  pub refuses : (n : Refusal) → r ≡ Err n → (s : ℕ) (o : Text) (a : Attributes) (t : ModelTable) → a.allow ≡ allow → a.sandbox ≡ sandbox → x ≡ origin_as (origin_of o) → y ≡ origin_as (origin_of a.src) → outcome (framed_load s h o a) t ≡ refuse n
+  pub good : r ≡ Ok tt → (o : Text) (a : Attributes) → a.allow ≡ allow → a.sandbox ≡ sandbox → x ≡ origin_as (origin_of o) → y ≡ origin_as (origin_of a.src) → GoodTexts h o a
 
 -- a document at the place; in a frame of it there is room for one more above; room for one more, and a serial
 pub record HasPlace (run : List ℕ) (p : FramePlace) : Type 0 where
@@ -113,15 +102,15 @@ pub record IsFramePlace (run : List ℕ) (s : ℕ) (h o : Text) (a : Attributes)
   pub loads : outcome (framed_load s h o a) (view run) ≡ load_of (view run) (is_malformed h) (framed_document (doc_at run p.container) h a) (framed_identity (doc_at run p.container).identity a (origin_of o))
 
 -- refusals 1, 5, 6 and 7 of every framed load with good texts and that sandbox attribute, or where it goes
-pub record IsFrameRoom (run : List ℕ) (s : ℕ) (x : OriginText) (has : Bool) (sandbox : List ℕ) (r : FrameRoom) : Type 0 where
-  pub refuses : (n : Refusal) → r ≡ frame.Refused n → (h o : Text) (a : Attributes) → a.has_sandbox ≡ has → a.sandbox ≡ sandbox → x ≡ origin_as (origin_of o) → GoodTexts h o a → outcome (framed_load s h o a) (view run) ≡ refuse n
-  pub places : (p : FramePlace) → r ≡ frame.At p → (h o : Text) (a : Attributes) → a.has_sandbox ≡ has → a.sandbox ≡ sandbox → x ≡ origin_as (origin_of o) → GoodTexts h o a → IsFramePlace run s h o a p
+pub record IsFrameRoom (run : List ℕ) (s : ℕ) (x : Option OriginText) (has : Bool) (sandbox : List ℕ) (r : Result FramePlace Refusal) : Type 0 where
+  pub refuses : (n : Refusal) → r ≡ Err n → (h o : Text) (a : Attributes) → a.has_sandbox ≡ has → a.sandbox ≡ sandbox → x ≡ origin_as (origin_of o) → GoodTexts h o a → outcome (framed_load s h o a) (view run) ≡ refuse n
+  pub places : (p : FramePlace) → r ≡ Ok p → (h o : Text) (a : Attributes) → a.has_sandbox ≡ has → a.sandbox ≡ sandbox → x ≡ origin_as (origin_of o) → GoodTexts h o a → IsFramePlace run s h o a p
 
 -- every refusal of a framed load, or where it goes
-pub record IsAdmitted (run : List ℕ) (s : ℕ) (x y : OriginText) (marks : FrameMarks) (allow sandbox h : List ℕ) (r : FrameRoom) : Type 0 where
-  pub refuses : (n : Refusal) → r ≡ frame.Refused n → (o src : Text) → x ≡ origin_as (origin_of o) → y ≡ origin_as (origin_of src) → outcome (framed_load s h o (attributes allow marks sandbox src)) (view run) ≡ refuse n
-  pub places : (p : FramePlace) → r ≡ frame.At p → (o src : Text) → x ≡ origin_as (origin_of o) → y ≡ origin_as (origin_of src) → IsFramePlace run s h o (attributes allow marks sandbox src) p × (length h ≤ text_bytes)
+pub record IsAdmitted (run : List ℕ) (s : ℕ) (x y : Option OriginText) (f : Frame) (h : List ℕ) (r : Result FramePlace Refusal) : Type 0 where
+  pub refuses : (n : Refusal) → r ≡ Err n → (o : Text) → x ≡ origin_as (origin_of o) → y ≡ origin_as (origin_of f.src.now) → outcome (framed_load s h o (attributes_of f)) (view run) ≡ refuse n
+  pub places : (p : FramePlace) → r ≡ Ok p → (o : Text) → x ≡ origin_as (origin_of o) → y ≡ origin_as (origin_of f.src.now) → IsFramePlace run s h o (attributes_of f) p × (length h ≤ text_bytes)
 
 -- the load at a place where it goes
-pub record LoadsAt (before : List ℕ) (p : FramePlace) (s : ℕ) (h o : Text) (a : Attributes) (after : List ℕ) (r : LoadAnswer) : Type 0 where
-  pub says : Valid before → IsFramePlace before s h o a p → Loads (framed_load s h o a) before after r
+pub record LoadsAt (before : List ℕ) (p : FramePlace) (s : ℕ) (h o : Text) (a : Attributes) (after : List ℕ) (d : LoadedDocument) : Type 0 where
+  pub says : Valid before → IsFramePlace before s h o a p → Loads (framed_load s h o a) before after (Ok d)

@@ -1,7 +1,7 @@
 -- Document 01, "Cases at the edges": the rows marked #, over the definitions that contracts cite.
 use Rattle.std.specs.Prelude.{ℕ, ◌≡◌, List, [], ◌∷◌, map, Bool, true, false, not, ◌&&◌, drop}
 use Prim.Native.String.{String}
-use Rattle.std.proofs.Math.Option.{Option, some, none}
+use Rattle.std.specs.Prelude.{Option, Some, None}
 use Rattle.ascii.specs.Literals.{text}
 use Rattle.ascii.specs.Texts.{every}
 use Rattle.origins.specs.Origins.{OriginSaid, origin_of}
@@ -45,31 +45,31 @@ pub data Row : Type 0 where
 
 -- whether an expression admits an origin, as read; no answer where the one is no expression or the other no tuple origin
 abbrev pub verdict : Option SourceExpression → OriginSaid → Option Bool
-verdict (some e) (says_tuple o) = some (admits e (tuple o))
-verdict (some e) says_empty = none
-verdict (some e) says_null = none
-verdict (some e) no_origin = none
-verdict none o = none
+verdict (Some e) (says_tuple o) = Some (admits e (tuple o))
+verdict (Some e) says_empty = None
+verdict (Some e) says_null = None
+verdict (Some e) no_origin = None
+verdict None o = None
 
 abbrev pub is_yes : Option Bool → Bool
-is_yes (some b) = b
-is_yes none = false
+is_yes (Some b) = b
+is_yes None = false
 
 abbrev pub is_no : Option Bool → Bool
-is_no (some b) = not b
-is_no none = false
+is_no (Some b) = not b
+is_no None = false
 
 abbrev pub is_undeclared : Option Allowlist → Bool
-is_undeclared (some l) = false
-is_undeclared none = true
+is_undeclared (Some l) = false
+is_undeclared None = true
 
 -- a list without `*`, without the document's own origin and without an expression; a header has no src-origin
 abbrev pub is_empty_list : Option Allowlist → Bool
-is_empty_list (some (listed false b [])) = true
-is_empty_list (some (listed false b (e ∷ es))) = false
-is_empty_list (some (listed true b es)) = false
-is_empty_list (some all) = false
-is_empty_list none = false
+is_empty_list (Some (listed false b [])) = true
+is_empty_list (Some (listed false b (e ∷ es))) = false
+is_empty_list (Some (listed true b es)) = false
+is_empty_list (Some all) = false
+is_empty_list None = false
 
 abbrev pub is_decision : Decision → Answer → Bool
 is_decision disabled (decision disabled) = true

@@ -1,4 +1,5 @@
 -- Laws of the names that are left to compare: at most one is, and a discarded one is never the word. Assumes nothing.
+use Rattle.std.specs.Prelude.{Option}
 use mathlib.Core.Path.{◌≡◌, refl, sym}
 use mathlib.Core.Logic.{⊎_elim}
 use mathlib.Core.Bool.{Bool, true, false, not, ◌&&◌}
@@ -17,7 +18,6 @@ use Rattle.ascii.specs.Texts.{every}
 use Rattle.features.specs.Features.{features, feature_count, names, name_of}
 use Rattle.features.specs.Discarding.{third_of, agree, left_from, left_to_compare, is_among}
 use Rattle.features.specs.Answers.{left_in}
-use Rattle.features.specs.declared.Left.{Left}
 use Rattle.features.proofs.Rules.{At, at_head, at_tail}
 use Rattle.features.proofs.Laws.{count}
 
@@ -144,8 +144,8 @@ module _ (word : List ℕ) where
       go (x ∷ []) h f = rw (eqb-true n x (rw (or-false (eqb n x)) at f))
       go (x ∷ y ∷ s) h f = absurd (not-suc-le-zero (le_of_suc-le-suc h))
 
--- R-2's two statements of the answer of `left_to_compare`. The type `Left` allows one number at most; that no second name agrees is `at_most_one`.
-module _ (word : List ℕ) (r : Left) (is : left_in r ≡ left_to_compare word) where
+-- R-2's two statements of the answer of `left_to_compare`. The type `(Option ℕ)` allows one number at most; that no second name agrees is `at_most_one`.
+module _ (word : List ℕ) (r : Option ℕ) (is : left_in r ≡ left_to_compare word) where
   pub answer-at-most-one : length (left_in r) ≤ 1
   answer-at-most-one = rw is (at_most_one word)
 

@@ -1,8 +1,9 @@
 -- Laws of the features for the crates above. Assumes nothing.
+use Rattle.std.specs.Prelude.{Option}
 use mathlib.Core.Path.{◌≡◌, refl}
 use mathlib.Core.Bool.{Bool, true, false}
 use mathlib.Core.List.{List, []}
-use mathlib.Core.Option.{some, none}
+use Rattle.std.specs.Prelude.{Some, None}
 use Prim.Native.Nat.{ℕ, ◌<◌, ◌≤◌}
 use native.Mathlib.Nat.{zero-add, not-suc-le-zero}
 use native.Mathlib.Omega.{arith}
@@ -17,8 +18,6 @@ use Rattle.ascii.proofs.Texts.{every-at, bytes_same}
 use Rattle.ascii.proofs.Bytes.{and_left, and_right}
 use Rattle.features.specs.Features.{Default, features, feature_count, row_default, names, name_of, default_of, place_from, feature_of, precedes, ascending, is_key}
 use Rattle.features.specs.Answers.{name_bytes, number_in}
-use Rattle.features.specs.declared.Lookup.{Lookup}
-use Rattle.features.specs.declared.Lookup.TheVariants.{Known}
 use Rattle.features.proofs.Rules.{no_row, rows, ascending-at, found_at, At, stands, map-some, map-none}
 
 -- there are seventeen
@@ -37,13 +36,13 @@ unfolding name_of
 name-order i j h g = ascending-at names i j names-ascend h (omega (arith, count))
 
 -- a feature is found by its name
-pub found : (n : ℕ) → n < feature_count → feature_of (name_of n) ≡ some n
+pub found : (n : ℕ) → n < feature_count → feature_of (name_of n) ≡ Some n
 unfolding name_of feature_of
 found n h = rw zero-add at (found_at names 0 n names-ascend (omega (arith, count)))
 
 -- two features have two names
 pub distinct : (i j : ℕ) → i < feature_count → j < feature_count → name_of i ≡ name_of j → i ≡ j
-distinct i j h g e = let a : feature_of (name_of i) ≡ some i = found i h in let b : feature_of (name_of j) ≡ some j = found j g in cc
+distinct i j h g e = let a : feature_of (name_of i) ≡ Some i = found i h in let b : feature_of (name_of j) ≡ Some j = found j g in cc
 
 -- compared byte for byte, they differ
 pub other_name : (i j : ℕ) → i < feature_count → j < feature_count → (i ≡ j → ⊥) → same_bytes (name_of i) (name_of j) ≡ false
@@ -54,29 +53,29 @@ other_name i j h g d = go (same_bytes (name_of i) (name_of j)) refl
     go false t = refl
 
 -- what is found has that name, and is one of the seventeen
-pub found_name : (word : List ℕ) (n : ℕ) → feature_of word ≡ some n → word ≡ name_of n
+pub found_name : (word : List ℕ) (n : ℕ) → feature_of word ≡ Some n → word ≡ name_of n
 unfolding name_of feature_of
 found_name word n e = let s : At (λ x. word ≡ x) names 0 n = stands names 0 n word e in let u : s.place ≡ n = omega arith in rw u at s.holds
 
-pub found_below : (word : List ℕ) (n : ℕ) → feature_of word ≡ some n → n < feature_count
+pub found_below : (word : List ℕ) (n : ℕ) → feature_of word ≡ Some n → n < feature_count
 unfolding feature_of
 found_below word n e = let s : At (λ x. word ≡ x) names 0 n = stands names 0 n word e in omega (arith, count)
 
 -- an unknown word is no feature's name
-pub unknown : (word : List ℕ) (n : ℕ) → feature_of word ≡ none → n < feature_count → word ≡ name_of n → ⊥
-unknown word n e h w = let a : feature_of (name_of n) ≡ some n = found n h in clash cc
+pub unknown : (word : List ℕ) (n : ℕ) → feature_of word ≡ None → n < feature_count → word ≡ name_of n → ⊥
+unknown word n e h w = let a : feature_of (name_of n) ≡ Some n = found n h in clash cc
 
 -- a number over 16 has no name and no default list
 pub name-none : (n : ℕ) → feature_count ≤ n → name_of n ≡ []
 unfolding name_of
 name-none n h = get_or-eq_default names [] (omega (arith, count))
 
-pub default_none : (n : ℕ) → feature_count ≤ n → default_of n ≡ none
+pub default_none : (n : ℕ) → feature_count ≤ n → default_of n ≡ None
 unfolding default_of
 default_none n h = map-none row_default features n (omega (arith, rows))
 
 -- every feature has a default list
-pub default-some : (n : ℕ) → n < feature_count → (d : Default) × (default_of n ≡ some d)
+pub default-some : (n : ℕ) → n < feature_count → (d : Default) × (default_of n ≡ Some d)
 unfolding default_of
 default-some n h = (row_default (get_or features n no_row), map-some row_default no_row features n (omega (arith, rows)))
 
@@ -113,6 +112,11 @@ name-short n = go (ltb n feature_count) refl
     go true t = short n (ltb-true n feature_count t)
     go false t = rw (name-none n (ltb-false n feature_count t)) (omega arith)
 
+pub named-short : (n : ℕ) (s : List ℕ) → s ≡ name_of n → length s ≤ name_bytes
+named-short n s e = rw e (name-short n)
+
+pub ruleset name_lengths = (name-short, named-short)
+
 -- a name is an RFC 8941 key
 pub names-keys : every is_key names ≡ true
 unfolding features names every is_key head_is head_of
@@ -133,12 +137,12 @@ unfolding is_key
 name-bytes n h = and_right (head_is is_key_start (name_of n)) (every is_key_byte (name_of n)) (name-key n h)
 
 -- an empty word is no name
-pub no-feature : feature_of [] ≡ none
+pub no-feature : feature_of [] ≡ None
 unfolding feature_of place_from features names same_by pick
 no-feature = refl
 
 -- the number that a lookup answers, as omega reads it
-pub number-known : (r : Lookup) (n : ℕ) → r ≡ Known n → number_in r ≡ n
+pub number-known : (r : Option ℕ) (n : ℕ) → r ≡ Some n → number_in r ≡ n
 number-known r n e = rw e
 
 pub ruleset numbers = (arith, number-known)

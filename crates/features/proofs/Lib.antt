@@ -4,4 +4,3 @@ pub mod Discarding
 pub mod Packing
 pub mod Names
 pub mod Numbers
-pub mod Entries

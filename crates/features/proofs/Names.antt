@@ -2,28 +2,22 @@
 use mathlib.Core.Path.{◌≡◌, refl, sym, ◌∙◌}
 use mathlib.Core.Bool.{Bool, true, false, ◌&&◌, ◌||◌}
 use mathlib.Core.List.{List, [], ◌∷◌}
-use mathlib.Core.Option.{Option, some, none}
-use Prim.Native.Nat.{ℕ, ◌+◌, ◌<◌, ◌≤◌}
-use native.Mathlib.Numerals.{add-one}
+use Rattle.std.specs.Prelude.{Option, Some, None}
+use Prim.Native.Nat.{ℕ, ◌<◌, ◌≤◌}
 use native.Mathlib.Omega.{arith}
 use lib.Dec.{eqb, leb, ltb}
-use lib.ListN.{length, get_or, drop, drop_of_length-le, get_or-eq_default}
-use lib.Seq.{drop-cons}
+use lib.ListN.{length, get_or, get_or-eq_default}
 use borrow.Author.Tests.{eqb-true, eq-eqb, ltb-true, ltb-false, lt-leb}
 use Rattle.ascii.proofs.Bytes.{and_left, and_right, or-false}
 use Rattle.ascii.proofs.Clash.{clash}
-use Rattle.ascii.specs.Bytes.{pick}
 use Rattle.ascii.proofs.Texts.{every-at, bytes_same, same-bytes}
 use Rattle.ascii.specs.Literals.{text}
-use Rattle.ascii.specs.Texts.{every, same_by, same_bytes}
+use Rattle.ascii.specs.Texts.{every, same_bytes}
 use Rattle.features.specs.Features.{feature_count, names, name_of, feature_of}
 use Rattle.features.specs.Discarding.{third_of, left_to_compare, is_among}
 use Rattle.features.specs.Packing.{front_of, back_of}
 use Rattle.features.specs.Computing.{computing}
-use Rattle.features.specs.Answers.{left_in, IsLookup, IsPacked, OnlyNumber}
-use Rattle.features.specs.declared.Left.{Left}
-use Rattle.features.specs.declared.Left.TheVariants.{One, Nothing}
-use Rattle.features.specs.declared.Lookup.TheVariants.{Known, Unknown}
+use Rattle.features.specs.Answers.{IsLookup, IsPacked, OnlyNumber}
 use Rattle.features.specs.declared.Packed.{Packed}
 use Rattle.features.proofs.Laws.{count, found, found_name, found_below, named-below, name-three}
 use Rattle.features.proofs.Packing.{Bytes, packed-same}
@@ -51,25 +45,6 @@ module _ (word : List ℕ) where
         let a : eqb name.len (length word) ≡ true = eq-eqb name.len (length word) (cc is.len) in
         let b : eqb name.third (third_of word) ≡ true = eq-eqb name.third (third_of word) (cc is.third) in
         clash cc)
-
--- two texts compared byte by byte, one turn and the end
-module _ (a b : List ℕ) (i : ℕ) (so r : Bool) (len : length a ≡ length b) (e : so && same_bytes (drop i a) (drop i b) ≡ r) where
-  pub byte-turn : i < length a → (so && eqb (get_or a i 0) (get_or b i 0)) && same_bytes (drop (i + 1) a) (drop (i + 1) b) ≡ r
-  unfolding same_by pick
-  byte-turn h = go so (eqb (get_or a i 0) (get_or b i 0)) (simp add-one (rw (drop-cons a i 0 h, drop-cons b i 0 (omega arith)) at e))
-    where
-      go : (x y : Bool) → x && pick y (same_bytes (drop (i + 1) a) (drop (i + 1) b)) false ≡ r → (x && y) && same_bytes (drop (i + 1) a) (drop (i + 1) b) ≡ r
-      go true true f = f
-      go true false f = f
-      go false y f = f
-
-  pub text-end : length a ≤ i → so ≡ r
-  unfolding same_by
-  text-end h = go so (rw (drop_of_length-le a h, drop_of_length-le b {i = i} (omega arith)) at e)
-    where
-      go : (x : Bool) → x && true ≡ r → x ≡ r
-      go true f = f
-      go false f = f
 
 -- the one name that is shorter than 4 bytes, and the one that is longer than 16
 abbrev pub shortest_name : List ℕ
@@ -106,12 +81,12 @@ name-octets n h i = go (ltb i (length (name_of n))) refl
     go false t = rw (get_or-eq_default (name_of n) 0 (ltb-false i (length (name_of n)) t)) (omega arith)
 
 -- what is answered where one name is left, and where none is
-unknown-is : (word : List ℕ) → ((n : ℕ) → n < feature_count → word ≡ name_of n → ⊥) → IsLookup word Unknown
+unknown-is : (word : List ℕ) → ((n : ℕ) → n < feature_count → word ≡ name_of n → ⊥) → IsLookup word None
 unknown-is word h = record { is = go (feature_of word) refl; below = omega arith }
   where
-    go : (r : Option ℕ) → feature_of word ≡ r → none ≡ r
-    go (some n) e = absurd (h n (found_below word n e) (found_name word n e))
-    go none e = refl
+    go : (r : Option ℕ) → feature_of word ≡ r → None ≡ r
+    go (Some n) e = absurd (h n (found_below word n e) (found_name word n e))
+    go None e = refl
 
 module _ (word : List ℕ) (n : ℕ) (left : n ∷ [] ≡ left_to_compare word) where
   among : (m : ℕ) → eqb m n ≡ is_among m (left_to_compare word)
@@ -131,9 +106,6 @@ module _ (word : List ℕ) (n : ℕ) (left : n ∷ [] ≡ left_to_compare word) 
   over_sixteen h = all_but (λ s. leb (length s) 16) longest_name longest n one_below (lt-leb (length (name_of n)) 16 (rw one-length at h))
 
   module _ (t : List ℕ) (is : name_of n ≡ t) where
-    pub text-length : length word ≡ length t
-    text-length = rw is at one-length
-
     pub text-test : (r : Bool) → r ≡ same_bytes word t → r ≡ same_bytes word (name_of n)
     text-test r e = rw is e
 
@@ -156,10 +128,10 @@ module _ (word : List ℕ) (n : ℕ) (left : n ∷ [] ≡ left_to_compare word) 
           clash cc
 
   -- the lookup's answers
-  pub known_is : (b : Bool) → b ≡ same_bytes word (name_of n) → b ≡ true → IsLookup word (Known n)
+  pub known_is : (b : Bool) → b ≡ same_bytes word (name_of n) → b ≡ true → IsLookup word (Some n)
   known_is b e t = record { is = rw (bytes_same word (name_of n) (sym e ∙ t)) (sym (found n one_below)); below = one_below }
 
-  pub other-is : (b : Bool) → b ≡ same_bytes word (name_of n) → b ≡ false → IsLookup word Unknown
+  pub other-is : (b : Bool) → b ≡ same_bytes word (name_of n) → b ≡ false → IsLookup word None
   other-is b e t = unknown-is word (λ m l u. go (eqb m n) m refl l u)
     where
       go : (x : Bool) (m : ℕ) → eqb m n ≡ x → m < feature_count → word ≡ name_of m → ⊥
@@ -170,13 +142,11 @@ module _ (word : List ℕ) (n : ℕ) (left : n ∷ [] ≡ left_to_compare word) 
           clash cc
       go false m x l u = discarded-differs word m l (sym (among m) ∙ x) u
 
-pub none_is : (word : List ℕ) → [] ≡ left_to_compare word → IsLookup word Unknown
+pub none_is : (word : List ℕ) → [] ≡ left_to_compare word → IsLookup word None
 unfolding is_among
 none_is word e = unknown-is word (λ n l u. discarded-differs word n l (rw (← e)) u)
 
--- what is left, by the answer's case
-pub is_one : (r : Left) (n : ℕ) (l : List ℕ) → r ≡ One n → left_in r ≡ l → n ∷ [] ≡ l
-is_one r n l t e = rw t at e
+-- the lookup's three answers, what is left to compare, and the compared names
+pub ruleset lookups = (known_is, other-is, none_is)
 
-pub is-nothing : (r : Left) (l : List ℕ) → r ≡ Nothing → left_in r ≡ l → [] ≡ l
-is-nothing r l t e = rw t at e
+pub ruleset left = (left-short, left-hit, left-miss)

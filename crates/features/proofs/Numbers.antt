@@ -1,14 +1,14 @@
 -- The names and defaults in the code's numbers: computed over the seventeen features. Assumes nothing.
 use mathlib.Core.Path.{◌≡◌, refl}
-use mathlib.Core.Bool.{Bool, true, false}
+use mathlib.Core.Bool.{Bool, true}
 use mathlib.Core.List.{List, [], ◌∷◌, map}
-use mathlib.Core.Option.{some}
-use Prim.Native.Nat.{ℕ, zero, suc, ◌+◌, ◌*◌, ◌^◌, ◌/◌, ◌%◌, ◌<◌, ◌≤◌}
+use Rattle.std.specs.Prelude.{slice_get, Some}
 use native.Mathlib.Nat.{zero-add, add-zero, add-suc, suc-add, le_of_suc-le-suc, not-suc-le-zero}
+use Prim.Native.Nat.{ℕ, zero, suc, ◌+◌, ◌*◌, ◌^◌, ◌/◌, ◌%◌, ◌<◌, ◌≤◌}
 use native.Mathlib.Omega.{arith}
 use lib.Dec.{eqb, leb}
-use lib.ListN.{length, get_elem?}
-use borrow.Author.Tests.{eqb-true, eqb-false, eq-eqb, ne_eqb, le-leb, lt-leb}
+use lib.ListN.{length, get_or}
+use borrow.Author.Tests.{eq-eqb, ne_eqb, le-leb, lt-leb}
 use Rattle.ascii.specs.Bytes.{pick}
 use Rattle.ascii.specs.Texts.{every, same_bytes}
 use Rattle.ascii.proofs.Texts.{every-at, bytes_same}
@@ -18,7 +18,8 @@ use Rattle.features.specs.Discarding.{third_of}
 use Rattle.features.specs.Packing.{front_of, back_of}
 use Rattle.features.specs.Answers.{IsPacked, OnlyNumber}
 use Rattle.features.specs.declared.Packed.{Packed}
-use Rattle.features.proofs.Laws.{count, distinct, name-none, name-three, named-below}
+use Rattle.features.proofs.Rules.{map_at}
+use Rattle.features.proofs.Laws.{count, distinct, name-three, named-below}
 
 -- the number of a short name in a number of eight bytes, and of a long one in a number of sixteen half bytes
 abbrev pub short_in : ℕ → ℕ → ℕ → ℕ
@@ -63,25 +64,18 @@ module _ (packed len third : ℕ) where
             one_number n (long_in packed len third) l (rw (u, v, lt-leb len 8 h) at a);
       }
 
--- an arm is for the number that it matches
-pub packed-at : (n k : ℕ) (r : Packed) → n ≡ k → r.len ≡ length (name_of k) → r.third ≡ third_of (name_of k) → r.front ≡ front_of (name_of k) → r.back ≡ back_of (name_of k) → IsPacked n r
-packed-at n k r e a b f g = rw e (record { len = a; third = b; front = f; back = g })
+-- a text in numbers
+abbrev pub packed_of : List ℕ → Packed
+packed_of s = record { len = length s; third = third_of s; front = front_of s; back = back_of s }
 
--- a number that is none of 0 to k - 1 is k or more
-abbrev pub NoneBelow : ℕ → ℕ → Type 0
-NoneBelow zero n = Unit
-NoneBelow (suc k) n = NoneBelow k n × (n ≡ k → ⊥)
+-- an entry of a table of the names in numbers
+pub packed-at : (t : List Packed) (d : Packed) (n : ℕ) → t ≡ map packed_of names → n < feature_count → IsPacked n (get_or t n d)
+unfolding name_of
+packed-at t d n e h =
+    let g : n < length names = omega (arith, count) in
+    rw (e, map_at packed_of [] d names n g) (record { len = refl; third = refl; front = refl; back = refl })
 
-pub none_below : (k n : ℕ) → NoneBelow k n → k ≤ n
-none_below zero n h = omega arith
-none_below (suc k) n h = let a : k ≤ n = none_below k n h.0 in go (eqb n k) refl a
-  where
-    go : (b : Bool) → eqb n k ≡ b → k ≤ n → suc k ≤ n
-    go true t a = absurd (h.1 (eqb-true n k t))
-    go false t a = let d : (n ≡ k → ⊥) = eqb-false n k t in omega arith
-
-pub packed_none : (n : ℕ) (r : Packed) → feature_count ≤ n → r ≡ record { len = 0; third = 0; front = 0; back = 0 } → IsPacked n r
-packed_none n r h e = rw e (record { len = rw (name-none n h); third = rw (name-none n h); front = rw (name-none n h); back = rw (name-none n h) })
+-- ---- the defaults as bits of one number
 
 -- the default that bit n of a number gives: `*` where it is set
 abbrev pub default_by : ℕ → ℕ → Default
@@ -92,7 +86,7 @@ unfoldable pub defaults_by : ℕ → ℕ → ℕ → List Default
 defaults_by stars n zero = []
 defaults_by stars n (suc k) = default_by stars n ∷ defaults_by stars (suc n) k
 
-defaults-at : (stars n k i : ℕ) → i < k → get_elem? (defaults_by stars n k) i ≡ some (default_by stars (n + i))
+defaults-at : (stars n k i : ℕ) → i < k → slice_get (defaults_by stars n k) i ≡ Some (default_by stars (n + i))
 unfolding defaults_by
 defaults-at stars n zero i h = absurd (not-suc-le-zero h)
 defaults-at stars n (suc k) zero h = rw (add-zero n)
@@ -100,14 +94,14 @@ defaults-at stars n (suc k) (suc i) h = rw (add-suc n i, ← suc-add n i) (defau
 
 -- where they are the seventeen of document 01, each feature has its bit's
 module _ (stars n : ℕ) (e : defaults_by stars 0 feature_count ≡ map row_default features) (h : n < feature_count) where
-  default-by : some (default_by stars n) ≡ default_of n
+  default-by : Some (default_by stars n) ≡ default_of n
   unfolding default_of
   default-by = rw (← e, defaults-at stars 0 feature_count n h, zero-add n)
 
-  pub default-star : stars / 2 ^ n % 2 ≡ 1 → some star ≡ default_of n
+  pub default-star : stars / 2 ^ n % 2 ≡ 1 → Some star ≡ default_of n
   unfolding pick
   default-star t = rw (eq-eqb (stars / 2 ^ n % 2) 1 t) at default-by
 
-  pub default-self : (stars / 2 ^ n % 2 ≡ 1 → ⊥) → some self ≡ default_of n
+  pub default-self : (stars / 2 ^ n % 2 ≡ 1 → ⊥) → Some self ≡ default_of n
   unfolding pick
   default-self t = rw (ne_eqb (stars / 2 ^ n % 2) 1 t) at default-by

@@ -2,8 +2,7 @@
 use Rattle.ascii.specs.Computing.{computing as ascii-computing}
 use Rattle.features.specs.Features.{features, names, name_of, default_of, place_from, feature_of, precedes, ascending, is_key}
 use Rattle.features.specs.Discarding.{agree, left_from, left_to_compare, is_among}
-use Rattle.features.specs.Answers.{padded, entry_as}
 
 unfoldable pub computing : Unit {0}
-unfolding ascii-computing features names name_of default_of place_from feature_of precedes ascending is_key agree left_from left_to_compare is_among padded entry_as
+unfolding ascii-computing features names name_of default_of place_from feature_of precedes ascending is_key agree left_from left_to_compare is_among
 computing = tt

@@ -1,7 +1,7 @@
 -- Names looked up, and names left to compare, by computation.
 use Rattle.std.specs.Prelude.{ℕ, ◌≡◌, refl, List, [], ◌∷◌, Bool, true, false, eqb}
 use Prim.Native.String.{String}
-use Rattle.std.proofs.Math.Option.{Option, some, none}
+use Rattle.std.specs.Prelude.{Option, Some, None}
 use Rattle.ascii.specs.Literals.{text}
 use Rattle.ascii.specs.Texts.{every, same_bytes}
 use Rattle.features.specs.Features.{feature_of}
@@ -14,12 +14,12 @@ pub data Row : Type 0 where
   unknown : String → Row
 
 abbrev same_number : ℕ → Option ℕ → Bool
-same_number n (some m) = eqb m n
-same_number n none = false
+same_number n (Some m) = eqb m n
+same_number n None = false
 
 abbrev is_none : Option ℕ → Bool
-is_none (some m) = false
-is_none none = true
+is_none (Some m) = false
+is_none None = true
 
 abbrev right : Row → Bool
 right (is s n) = same_number n (feature_of (text s))

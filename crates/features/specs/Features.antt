@@ -1,7 +1,7 @@
 -- The features: document 01, "The features".
 use Rattle.std.specs.Prelude.{ℕ, suc, List, [], ◌∷◌, map, Bool, true, false, ◌&&◌, ltb, eqb, get_or}
-use Rattle.std.proofs.Math.Option.{Option, some, none}
-use Rattle.std.proofs.Math.ListN.{get_elem?}
+use Rattle.std.specs.Prelude.{Option, Some, None}
+use Rattle.std.specs.Prelude.{slice_get}
 use Rattle.ascii.specs.Bytes.{pick, is_key_start, is_key_byte}
 use Rattle.ascii.specs.Literals.{text}
 use Rattle.ascii.specs.Reading.{head_is}
@@ -58,12 +58,12 @@ name_of n = get_or names n []
 
 -- the default list of a number; none for a number over 16
 unfoldable pub default_of : ℕ → Option Default
-default_of n = get_elem? (map row_default features) n
+default_of n = slice_get (map row_default features) n
 
 -- the place of a word in a list of names, counted from a number
 unfoldable pub place_from : ℕ → List ℕ → List (List ℕ) → Option ℕ
-place_from n word [] = none
-place_from n word (name ∷ rest) = pick (same_bytes word name) (some n) (place_from (suc n) word rest)
+place_from n word [] = None
+place_from n word (name ∷ rest) = pick (same_bytes word name) (Some n) (place_from (suc n) word rest)
 
 -- "Names are compared byte for byte": the number of a name, if it is a feature's
 unfoldable pub feature_of : List ℕ → Option ℕ

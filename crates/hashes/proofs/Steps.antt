@@ -6,6 +6,7 @@ use mathlib.Core.Bool.{Bool, true, false, not, ◌&&◌, and-true, and_assoc}
 use native.Mathlib.Omega.{arith}
 use native.Mathlib.Numerals.{add-one}
 use borrow.Author.Tests.{eq-eqb, ne_eqb}
+use Rattle.std.specs.Prelude.{Some, None}
 use lib.ListN.{length, get_or, drop, drop_of_length-le}
 use lib.Seq.{drop-cons}
 use lib.Dec.{eqb}
@@ -16,6 +17,7 @@ use Rattle.ascii.proofs.Clash.{clash}
 use Rattle.origins.specs.Answers.{host_in, expression_by}
 use Rattle.origins.specs.NormalForms.{normal_port, normal}
 use Rattle.origins.specs.declared.ExpressionParts.{ExpressionParts}
+use Rattle.origins.specs.declared.HostKind.{HostKind}
 use Rattle.origins.specs.declared.HostKind.TheVariants as kind
 use Rattle.origins.proofs.Laws.{normal-parts}
 use Rattle.origins.specs.declared.PortPart.{PortPart}
@@ -52,9 +54,9 @@ module _ (x : ℕ) (l : List ℕ) (i r : ℕ) (so_far : i + first_place x (drop 
   unfolding first_place pick
   place-on k e = let z : i + suc (first_place x (drop (suc i) l)) ≡ r = rw (drop-cons l i 0 k, ne_eqb (get_or l i 0) x e) at so_far in rw (add-one i) (omega arith)
 
-  pub place_end : length l ≤ i → i ≡ r
+  pub place_end : i ≤ length l → length l ≤ i → length l ≡ r
   unfolding first_place
-  place_end k = let z : i + 0 ≡ r = rw (drop_of_length-le l k) at so_far in omega arith
+  place_end j k = let z : i + 0 ≡ r = rw (drop_of_length-le l k) at so_far in omega arith
 
 all-place : (x : ℕ) (l : List ℕ) → every (is_other x) l ≡ true → length l ≡ first_place x l
 unfolding first_place pick
@@ -77,14 +79,14 @@ module _ (e : ExpressionParts) (h : List ℕ) (k p x : ℕ) (q : PortPart) (port
   unfolding hash_of
   by_parts = rw (normal-parts (expression_by e h), start, scheme, of, port) refl
 
-  pub hash-none : e.host ≡ kind.None → x ≡ hash_of (normal (expression_by e h))
+  pub hash-none : e.host ≡ None → x ≡ hash_of (normal (expression_by e h))
   hash-none w = rw (by_parts, w) refl
 
-  pub hash-any : (r : ℕ) → e.host ≡ kind.Any → r ≡ (31 * x + 42) % 65536 → r ≡ hash_of (normal (expression_by e h))
-  hash-any r w u = rw (by_parts, w) u
+  pub hash-any : (r : ℕ) → (i : HostKind) → e.host ≡ Some i → i ≡ kind.Any → r ≡ (31 * x + 42) % 65536 → r ≡ hash_of (normal (expression_by e h))
+  hash-any r i w j u = rw (by_parts, w, j) u
 
-  pub hash-exact : (r : ℕ) → e.host ≡ kind.Exact → r ≡ text_hash x h → r ≡ hash_of (normal (expression_by e h))
-  hash-exact r w u = rw (by_parts, w) u
+  pub hash-exact : (r : ℕ) → (i : HostKind) → e.host ≡ Some i → i ≡ kind.Exact → r ≡ text_hash x h → r ≡ hash_of (normal (expression_by e h))
+  hash-exact r i w j u = rw (by_parts, w, j) u
 
-  pub hash-subdomains : (y r : ℕ) → e.host ≡ kind.Subdomains → y ≡ (31 * x + 42) % 65536 → r ≡ text_hash y h → r ≡ hash_of (normal (expression_by e h))
-  hash-subdomains y r w v u = rw (by_parts, w, ← v) u
+  pub hash-subdomains : (y r : ℕ) → (i : HostKind) → e.host ≡ Some i → i ≡ kind.Subdomains → y ≡ (31 * x + 42) % 65536 → r ≡ text_hash y h → r ≡ hash_of (normal (expression_by e h))
+  hash-subdomains y r i w j v u = rw (by_parts, w, j, ← v) u

@@ -1,7 +1,7 @@
 // A hash of an expression's normal form, and the first place of a number among others: whoever looks for an expression needn't compare those before the first of its hash.
 #![tactic(auto)]
 
-ghost use Rattle.std.specs.Prelude.{◌≡◌, ◌+◌, ◌*◌, ◌%◌, ◌<◌};
+ghost use Rattle.std.specs.Prelude.{◌≡◌, ◌+◌, ◌*◌, ◌%◌};
 ghost use Rattle.ascii.specs.Texts.{every};
 ghost use Rattle.origins.specs.Answers.{expression_by};
 ghost use Rattle.origins.specs.NormalForms.{normal};
@@ -10,29 +10,25 @@ ghost use Rattle.hashes.specs.Hashes.{text_hash, scheme_hash, port_hash, hash_of
 use origins::{ExpressionParts, HostKind, PortPart, Scheme};
 
 // The hash of a text and one byte more.
-fn with_byte(x: u32, b: u8) -> u32
-    requires { x < 65536 }
-    ensures { (result ≡ (31 * x + b) % 65536) × (result < 65536) }
+fn with_byte(x: u16, b: u8) -> u16
+    ensures { result ≡ (31 * x + b) % 65536 }
 {
-    (31 * x + b as u32) % 65536
+    ((31 * u32::from(x) + u32::from(b)) % 65536) as u16
 }
 
 // The hash of a text, from a number on.
-fn text_hash(start: u32, t: &[u8]) -> u32
-    requires { start < 65536 }
-    ensures { (result ≡ text_hash start t.now) × (result < 65536) }
+fn text_hash(start: u16, t: &[u8]) -> u16
+    ensures { result ≡ text_hash start t.now }
 {
     let mut x = start;
-    let mut i: usize = 0;
-    while i < t.len() {
-        x = with_byte(x, t[i]);
-        i += 1;
+    for b in t {
+        x = with_byte(x, *b);
     }
     x
 }
 
-fn scheme_hash(k: Scheme) -> u32
-    ensures { (result ≡ scheme_hash k) × (result < 65536) }
+fn scheme_hash(k: Scheme) -> u16
+    ensures { result ≡ scheme_hash k }
 {
     match k {
         Scheme::Http => 0,
@@ -40,13 +36,13 @@ fn scheme_hash(k: Scheme) -> u32
     }
 }
 
-fn port_hash(p: PortPart) -> u32
-    ensures { (result ≡ port_hash p) × (result < 65536) }
+fn port_hash(p: PortPart) -> u16
+    ensures { result ≡ port_hash p }
 {
     match p {
         PortPart::Default => 0,
         PortPart::Any => 1,
-        PortPart::Number(n) => n % 65536,
+        PortPart::Number(n) => (n % 65536) as u16,
     }
 }
 
@@ -56,13 +52,14 @@ pub fn hash(e: ExpressionParts, h: &[u8]) -> u16
 {
     let k = e.scheme;
     let own = e.port;
-    let kind = e.host;
-    let x = (scheme_hash(k) + port_hash(origins::normal_port(k, own))) % 65536;
+    let x = scheme_hash(k).wrapping_add(port_hash(origins::normal_port(k, own)));
+    let Some(kind) = e.host else {
+        return x;
+    };
     match kind {
-        HostKind::None => x as u16,
-        HostKind::Any => with_byte(x, b'*') as u16,
-        HostKind::Exact => text_hash(x, h) as u16,
-        HostKind::Subdomains => text_hash(with_byte(x, b'*'), h) as u16,
+        HostKind::Any => with_byte(x, b'*'),
+        HostKind::Exact => text_hash(x, h),
+        HostKind::Subdomains => text_hash(with_byte(x, b'*'), h),
     }
 }
 
@@ -71,10 +68,8 @@ fn all_other(numbers: &[u16], x: u16) -> bool
     ensures { result ≡ every (is_other x) numbers.now }
 {
     let mut other = true;
-    let mut i: usize = 0;
-    while i < numbers.len() {
-        other = other & (numbers[i] != x);
-        i += 1;
+    for n in numbers {
+        other &= *n != x;
     }
     other
 }
@@ -86,12 +81,10 @@ pub fn first_place(numbers: &[u16], x: u16) -> usize
     if all_other(numbers, x) {
         return numbers.len();
     }
-    let mut i: usize = 0;
-    while i < numbers.len() {
-        if numbers[i] == x {
+    for (i, n) in numbers.iter().enumerate() {
+        if *n == x {
             return i;
         }
-        i += 1;
     }
-    i
+    numbers.len()
 }

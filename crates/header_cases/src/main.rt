@@ -1,13 +1,11 @@
 // The examples of RFC 8941's grammar and document 01's header rows, read by the library. Each line of standard input is a case.
 #![tactic(auto)]
 
-use allowlists::Admission;
-use ascii::{Class, TextRange};
-use dictionaries::{ListItem, MemberFound};
+use ascii::TextRange;
+use dictionaries::{NotADictionary, ValueRange};
 use items::{ItemKind, ItemRange};
 use origins::{OriginRange, OriginText};
-use settled::ListFound;
-use settling::Settled;
+use settling::SettleError;
 use std::io;
 
 // So much of the input is read.
@@ -29,39 +27,29 @@ fn tell(rt: &impl Print, s: &[u8]) -> io::Result<()> {
 }
 
 fn show_item(rt: &impl Print, s: &[u8], item: ItemRange) -> io::Result<()> {
-    let kind = item.kind;
-    let from = item.from;
-    let to = item.to;
-    match kind {
+    match item.kind {
         ItemKind::Token => put(rt, b"token ")?,
         ItemKind::String => put(rt, b"string ")?,
         ItemKind::Other => put(rt, b"other")?,
     }
-    put(rt, ascii::part(s, from, to))
+    put(rt, item.text.of(s))
 }
 
 fn show_list(rt: &impl Print, s: &[u8], first: usize) -> io::Result<()> {
     put(rt, b"list")?;
     let mut at = first;
-    loop {
-        match dictionaries::item_at(s, at) {
-            ListItem::Item(f) => {
-                let range = f.range;
-                put(rt, b"; ")?;
-                show_item(rt, s, range)?;
-                at = f.next;
-            }
-            ListItem::End => return Ok(()),
-        }
+    while let Some(found) = dictionaries::item_at(s, at) {
+        put(rt, b"; ")?;
+        show_item(rt, s, found.range)?;
+        at = found.next;
     }
+    Ok(())
 }
 
 fn show_params(rt: &impl Print, s: &[u8], range: TextRange) -> io::Result<()> {
-    let from = range.from;
-    let to = range.to;
-    if from < to {
+    if range.from < range.to {
         put(rt, b"; parameters ")?;
-        put(rt, ascii::part(s, from, to))?;
+        put(rt, range.of(s))?;
     }
     Ok(())
 }
@@ -73,19 +61,14 @@ fn show(rt: &impl Print, s: &[u8], key: &[u8]) -> io::Result<()> {
     put(rt, s)?;
     put(rt, b": ")?;
     match dictionaries::member(s, key) {
-        MemberFound::NotADictionary => put(rt, b"malformed")?,
-        MemberFound::Absent => put(rt, b"absent")?,
-        MemberFound::Item(m) => {
-            let item = m.item;
-            let params = m.params;
-            show_item(rt, s, item)?;
-            show_params(rt, s, params)?;
-        }
-        MemberFound::List(m) => {
-            let first = m.first;
-            let params = m.params;
-            show_list(rt, s, first)?;
-            show_params(rt, s, params)?;
+        Err(NotADictionary) => put(rt, b"malformed")?,
+        Ok(None) => put(rt, b"absent")?,
+        Ok(Some(value)) => {
+            match value.range {
+                ValueRange::Item(item) => show_item(rt, s, item)?,
+                ValueRange::List(first) => show_list(rt, s, first)?,
+            }
+            show_params(rt, s, value.params)?;
         }
     }
     put(rt, b"\n")
@@ -95,18 +78,18 @@ fn show(rt: &impl Print, s: &[u8], key: &[u8]) -> io::Result<()> {
 fn ask(rt: &impl Print, d: &[u8], text: &[u8], o: OriginRange) -> io::Result<()> {
     let same = ascii::same(text, b"https://a.example");
     match settled::admits(d, 0, same, text, o) {
-        Admission::Admitted => put(rt, b"yes"),
-        Admission::NotAdmitted => put(rt, b"no"),
-        Admission::NoList => put(rt, b"undeclared"),
+        Some(true) => put(rt, b"yes"),
+        Some(false) => put(rt, b"no"),
+        None => put(rt, b"undeclared"),
     }
 }
 
 fn ask_text(rt: &impl Print, d: &[u8], text: &[u8]) -> io::Result<()> {
     match origins::origin_text(text) {
-        OriginText::Tuple(o) => ask(rt, d, text, OriginRange::Tuple(o)),
-        OriginText::Null => ask(rt, d, text, OriginRange::Fresh),
-        OriginText::Empty => put(rt, b"empty"),
-        OriginText::NotAnOrigin => put(rt, b"no origin"),
+        Some(OriginText::Tuple(o)) => ask(rt, d, text, OriginRange::Tuple(o)),
+        Some(OriginText::Null) => ask(rt, d, text, OriginRange::Fresh),
+        Some(OriginText::Empty) => put(rt, b"empty"),
+        None => put(rt, b"no origin"),
     }
 }
 
@@ -125,9 +108,8 @@ fn show_camera(rt: &impl Print, d: &[u8], malformed: bool) -> io::Result<()> {
         return put(rt, b": malformed\n");
     }
     match settled::list_of(d, 0) {
-        ListFound::Undeclared => put(rt, b": undeclared\n"),
-        ListFound::All => ask_all(rt, d),
-        ListFound::Listed(_) => ask_all(rt, d),
+        Some(_) => ask_all(rt, d),
+        None => put(rt, b": undeclared\n"),
     }
 }
 
@@ -137,35 +119,37 @@ fn camera(rt: &impl Print, s: &[u8]) -> io::Result<()> {
     put(rt, s)?;
     let mut d = [0u8; 200];
     match settling::settle(s, &mut d) {
-        Settled::Header(f) => show_camera(rt, &d, f.malformed),
-        Settled::TooLong => put(rt, b": too long\n"),
-        Settled::NoRoom => put(rt, b": no room\n"),
+        Ok(f) => show_camera(rt, &d, f.malformed),
+        Err(SettleError::TooLong) => put(rt, b": too long\n"),
+        Err(SettleError::NoRoom) => put(rt, b": no room\n"),
     }
+}
+
+// What stands before the first `|` of a text, and past it.
+fn parted(t: &[u8]) -> (&[u8], &[u8]) {
+    let mut parts = t.splitn(2, |b| *b == b'|');
+    let front = parts.next().unwrap_or(&[]);
+    (front, parts.next().unwrap_or(&[]))
 }
 
 // A kind is told by its first letter: `is` a text a dictionary, the last member `of` a key in a text, what a header declares for `camera`.
 fn case(rt: &impl Print, line: &[u8]) -> io::Result<()> {
-    let e = ascii::run_end(line, 0, Class::Not(b'|'));
-    let rest = ascii::part(line, ascii::place(line, e + 1), line.len());
-    match ascii::byte(line, 0) {
-        b'i' => tell(rt, rest),
-        b'o' => {
-            let k = ascii::run_end(rest, 0, Class::Not(b'|'));
-            let text = ascii::part(rest, ascii::place(rest, k + 1), rest.len());
-            show(rt, text, ascii::part(rest, 0, k))
+    let (kind, rest) = parted(line);
+    match kind.first() {
+        Some(b'i') => tell(rt, rest),
+        Some(b'o') => {
+            let (key, text) = parted(rest);
+            show(rt, text, key)
         }
-        b'c' => camera(rt, rest),
+        Some(b'c') => camera(rt, rest),
         _ => put(rt, b"no case\n"),
     }
 }
 
 // Each line of a list is a case, and ends in a line feed.
 fn cases(rt: &impl Print, list: &[u8]) -> io::Result<()> {
-    let mut i: usize = 0;
-    while i < list.len() {
-        let to = ascii::run_end(list, i, Class::Not(b'\n'));
-        case(rt, ascii::part(list, i, to))?;
-        i = to + 1;
+    for line in list.split_inclusive(|b| *b == b'\n') {
+        case(rt, line.strip_suffix(b"\n").unwrap_or(line))?;
     }
     Ok(())
 }

@@ -5,7 +5,7 @@ use Prim.Native.Nat.{ℕ}
 use mathlib.Core.List.{List, [], ◌∷◌}
 use mathlib.Core.Bool.{Bool, true, false}
 use Rattle.ascii.specs.Bytes.{pick, is_key_start, is_key_byte}
-use Rattle.ascii.specs.Texts.{same_by, same_bytes, part_of}
+use Rattle.ascii.specs.Texts.{same_by, same_bytes, part_in}
 use Rattle.ascii.specs.Reading.{head_of, head_is, run_of, past}
 use Rattle.ascii.specs.Reading.Parsed.{parsed, malformed}
 use Rattle.ascii.proofs.Clash.{clash}
@@ -18,11 +18,11 @@ use Rattle.items.specs.declared.ItemRange.{ItemRange}
 
 -- the item that a range says, by its kind
 module _ (s : List ℕ) (p : ItemRange) where
-  pub token-in : p.kind ≡ kind.Token → item_in s p ≡ token (part_of s p.from p.to)
+  pub token-in : p.kind ≡ kind.Token → item_in s p ≡ token (part_in s p.text)
   unfolding item_in item_by
   token-in e = rw e
 
-  pub string-in : p.kind ≡ kind.String → item_in s p ≡ string (part_of s p.from p.to)
+  pub string-in : p.kind ≡ kind.String → item_in s p ≡ string (part_in s p.text)
   unfolding item_in item_by
   string-in e = rw e
 

@@ -1,9 +1,10 @@
 -- What was read is what stood there: the text of an item is the part of the text that its range says. Assumes nothing.
+use Rattle.std.specs.Prelude.{Some, None}
 use mathlib.Core.Path.{◌≡◌, refl, ap, ◌∙◌, sym}
 use Prim.Native.Nat.{ℕ, zero, suc, ◌+◌, ◌-◌, ◌≤◌, ◌<◌, min}
 use mathlib.Core.List.{List, [], ◌∷◌, ◌++◌, append_assoc}
 use mathlib.Core.Bool.{Bool, true, false}
-use mathlib.Core.Option.{Option}
+use Rattle.std.specs.Prelude.{Option}
 use native.Mathlib.Omega.{arith}
 use lib.ListN.{length, drop, length-append, length-drop}
 use lib.Seq.{take_at, drop-drop}
@@ -16,8 +17,6 @@ use Rattle.ascii.specs.Reading.{Parsed, Step, head_of, head_is, next, run_of, pa
 use Rattle.ascii.specs.Reading.Parsed.{parsed, malformed}
 use Rattle.ascii.specs.Reading.Step.{more, done, fail}
 use Rattle.ascii.specs.Places.{rest_of, left_at, low, high}
-use Rattle.ascii.specs.declared.Read.{Read}
-use Rattle.ascii.specs.declared.Read.TheVariants as read
 use Rattle.ascii.proofs.Reading.{run-cut}
 use Rattle.ascii.proofs.Texts.{part-in}
 use Rattle.items.specs.Items.{Item, Parameter, key_of, token_of, is_escaped, is_number_start, string_turn, string_of, number_of, bytes_of, boolean_of, bare_of, params_of, item_of}
@@ -26,8 +25,6 @@ use Rattle.items.specs.Found.{item_range, item_found, item_by, item_in, end_of}
 use Rattle.items.specs.declared.ItemKind.{ItemKind}
 use Rattle.items.specs.declared.ItemKind.TheVariants as kind
 use Rattle.items.specs.declared.ItemFound.{ItemFound}
-use Rattle.items.specs.declared.ItemRead.{ItemRead}
-use Rattle.items.specs.declared.ItemRead.TheVariants as item
 
 -- what a reading took from the text
 abbrev pub Took : {A : Type 0} → (A → List ℕ) → List ℕ → Parsed A → Type 0
@@ -153,77 +150,77 @@ pub place-left : (s m : List ℕ) (q : ℕ) → q ≤ length s → drop q s ≡ 
 place-left s m q h e = omega (arith, sym (length-drop q s) ∙ ap length e)
 
 -- an answer's place, and what is left there
-pub left-at : (s : List ℕ) (r : Read) (q : ℕ) (w : Option (List ℕ)) → r ≡ read.At q → left_at s r ≡ w → left_at s (read.At q) ≡ w
+pub left-at : (s : List ℕ) (r : Option ℕ) (q : ℕ) (w : Option (List ℕ)) → r ≡ Some q → left_at s r ≡ w → left_at s (Some q) ≡ w
 left-at s r q w e h = rw e at h
 
-pub left-none : (s : List ℕ) (r : Read) (w : Option (List ℕ)) → r ≡ read.Malformed → left_at s r ≡ w → left_at s read.Malformed ≡ w
+pub left-none : (s : List ℕ) (r : Option ℕ) (w : Option (List ℕ)) → r ≡ None → left_at s r ≡ w → left_at s None ≡ w
 left-none s r w e h = rw e at h
 
 -- and what is left by a reading, taken apart
-pub left-parsed : {A : Type 0} (s m : List ℕ) (q : ℕ) (x : A) → left_at s (read.At q) ≡ rest_of (parsed x m) → drop q s ≡ m
+pub left-parsed : {A : Type 0} (s m : List ℕ) (q : ℕ) (x : A) → left_at s (Some q) ≡ rest_of (parsed x m) → drop q s ≡ m
 unfolding rest_of left_at
 left-parsed s m q x v = cc
 
-pub left_not : (A : Type 0) (s : List ℕ) (q : ℕ) → left_at s (read.At q) ≡ rest_of {A = A} malformed → ⊥
+pub left_not : (A : Type 0) (s : List ℕ) (q : ℕ) → left_at s (Some q) ≡ rest_of {A = A} malformed → ⊥
 unfolding rest_of left_at
 left_not A s q v = clash cc
 
-pub none-parsed : {A : Type 0} (s m : List ℕ) (x : A) → left_at s read.Malformed ≡ rest_of (parsed x m) → ⊥
+pub none-parsed : {A : Type 0} (s m : List ℕ) (x : A) → left_at s None ≡ rest_of (parsed x m) → ⊥
 unfolding rest_of left_at
 none-parsed s m x v = clash cc
 
 -- an item that the code has found, by its kind and its places
-module _ (s : List ℕ) (i q : ℕ) (r : Read) (low-r : i < low r) (high-r : high r ≤ length s) (is : left_at s r ≡ rest_of (bare_of (drop i s))) (at : r ≡ read.At q) where
+module _ (s : List ℕ) (i q : ℕ) (r : Option ℕ) (low-r : i < low r) (high-r : high r ≤ length s) (is : left_at s r ≡ rest_of (bare_of (drop i s))) (at : r ≡ Some q) where
   within_text : q ≤ length s
   within_text = omega (arith, ap high at)
 
   before : i < q
   before = omega (arith, ap low at)
 
-  read-at : left_at s (read.At q) ≡ rest_of (bare_of (drop i s))
+  read-at : left_at s (Some q) ≡ rest_of (bare_of (drop i s))
   read-at = left-at s r q _ at is
 
-  pub found-string : kind.String ≡ kind_by (head_of (drop i s)) → item.Found (record { range = record { kind = kind.String; from = i + 1; to = q - 1 }; next = q }) ≡ item_found s i (bare_of (drop i s))
+  pub found-string : kind.String ≡ kind_by (head_of (drop i s)) → Some (record { range = record { kind = kind.String; text = record { from = i + 1; to = q - 1 } }; next = q }) ≡ item_found s i (bare_of (drop i s))
   unfolding item_found item_range
   found-string e = go (bare_of (drop i s)) read-at (rw (← e) at (bare-took (drop i s)))
     where
-      go : (g : Parsed Item) → left_at s (read.At q) ≡ rest_of g → ItemTook kind.String (drop i s) g → item.Found (record { range = record { kind = kind.String; from = i + 1; to = q - 1 }; next = q }) ≡ item_found s i g
+      go : (g : Parsed Item) → left_at s (Some q) ≡ rest_of g → ItemTook kind.String (drop i s) g → Some (record { range = record { kind = kind.String; text = record { from = i + 1; to = q - 1 } }; next = q }) ≡ item_found s i g
       go (parsed (string t) m) v c =
           let d : drop q s ≡ m = left-parsed s m q (string t) v in
           let n : q ≡ length s - length m = place-left s m q within_text d in
           let w : q - 1 ≡ i + 1 + length t = omega (arith, within_text, before, sym (length-drop i s) ∙ ap length c.1, length-append (t ++ (34 ∷ [])) m, length-append t (34 ∷ []), sym (length-drop q s) ∙ ap length d) in
-          λ j. item.Found (record { range = record { kind = kind.String; from = i + 1; to = w j }; next = n j })
+          λ j. Some (record { range = record { kind = kind.String; text = record { from = i + 1; to = w j } }; next = n j })
       go (parsed (token t) m) v c = clash cc
       go (parsed other m) v c = clash cc
       go malformed v c = absurd (left_not Item s q v)
 
-  pub found-token : kind.Token ≡ kind_by (head_of (drop i s)) → item.Found (record { range = record { kind = kind.Token; from = i; to = q }; next = q }) ≡ item_found s i (bare_of (drop i s))
+  pub found-token : kind.Token ≡ kind_by (head_of (drop i s)) → Some (record { range = record { kind = kind.Token; text = record { from = i; to = q } }; next = q }) ≡ item_found s i (bare_of (drop i s))
   unfolding item_found item_range
   found-token e = go (bare_of (drop i s)) read-at (rw (← e) at (bare-took (drop i s)))
     where
-      go : (g : Parsed Item) → left_at s (read.At q) ≡ rest_of g → ItemTook kind.Token (drop i s) g → item.Found (record { range = record { kind = kind.Token; from = i; to = q }; next = q }) ≡ item_found s i g
+      go : (g : Parsed Item) → left_at s (Some q) ≡ rest_of g → ItemTook kind.Token (drop i s) g → Some (record { range = record { kind = kind.Token; text = record { from = i; to = q } }; next = q }) ≡ item_found s i g
       go (parsed (token t) m) v c =
           let d : drop q s ≡ m = left-parsed s m q (token t) v in
           let n : q ≡ length s - length m = place-left s m q within_text d in
           let w : q ≡ i + length t = omega (arith, within_text, before, sym (length-drop i s) ∙ ap length c.1, length-append t m, sym (length-drop q s) ∙ ap length d) in
-          λ j. item.Found (record { range = record { kind = kind.Token; from = i; to = w j }; next = n j })
+          λ j. Some (record { range = record { kind = kind.Token; text = record { from = i; to = w j } }; next = n j })
       go (parsed (string t) m) v c = clash cc
       go (parsed other m) v c = clash cc
       go malformed v c = absurd (left_not Item s q v)
 
-  pub found-other : kind.Other ≡ kind_by (head_of (drop i s)) → item.Found (record { range = record { kind = kind.Other; from = i; to = i }; next = q }) ≡ item_found s i (bare_of (drop i s))
+  pub found-other : kind.Other ≡ kind_by (head_of (drop i s)) → Some (record { range = record { kind = kind.Other; text = record { from = i; to = i } }; next = q }) ≡ item_found s i (bare_of (drop i s))
   unfolding item_found item_range
   found-other e = go (bare_of (drop i s)) read-at (rw (← e) at (bare-took (drop i s)))
     where
-      go : (g : Parsed Item) → left_at s (read.At q) ≡ rest_of g → ItemTook kind.Other (drop i s) g → item.Found (record { range = record { kind = kind.Other; from = i; to = i }; next = q }) ≡ item_found s i g
+      go : (g : Parsed Item) → left_at s (Some q) ≡ rest_of g → ItemTook kind.Other (drop i s) g → Some (record { range = record { kind = kind.Other; text = record { from = i; to = i } }; next = q }) ≡ item_found s i g
       go (parsed other m) v c =
           let n : q ≡ length s - length m = place-left s m q within_text (left-parsed s m q other v) in
-          λ j. item.Found (record { range = record { kind = kind.Other; from = i; to = i }; next = n j })
+          λ j. Some (record { range = record { kind = kind.Other; text = record { from = i; to = i } }; next = n j })
       go (parsed (string t) m) v c = clash cc
       go (parsed (token t) m) v c = clash cc
       go malformed v c = absurd (left_not Item s q v)
 
-pub found_none : (s : List ℕ) (i : ℕ) (g : Parsed Item) (r : Read) → left_at s r ≡ rest_of g → r ≡ read.Malformed → item.Malformed ≡ item_found s i g
+pub found_none : (s : List ℕ) (i : ℕ) (g : Parsed Item) (r : Option ℕ) → left_at s r ≡ rest_of g → r ≡ None → None ≡ item_found s i g
 unfolding item_found
 found_none s i (parsed x m) r is at = absurd (none-parsed s m x (left-none s r _ at is))
 found_none s i malformed r is at = refl
@@ -233,14 +230,14 @@ pub ruleset founds = (found-string, found-token, found-other, found_none, kind-s
 pub ruleset lefts = (left-at, left-none)
 
 -- an item is a bare item and its parameters
-module _ (s : List ℕ) (i : ℕ) (g : Parsed Item) (r : ItemRead) (f : ItemFound) (is : r ≡ item_found s i g) (left : left_at s (end_of r) ≡ rest_of g) (at : r ≡ item.Found f) where
-  pub found-item : (p : Read) (n : ℕ) → left_at s p ≡ rest_of (params_of (drop f.next s)) → high p ≤ length s → p ≡ read.At n → item.Found (record { range = f.range; next = n }) ≡ item_found s i (after g (λ x m. mapped (λ ps. x) (params_of m)))
+module _ (s : List ℕ) (i : ℕ) (g : Parsed Item) (r : Option ItemFound) (f : ItemFound) (is : r ≡ item_found s i g) (left : left_at s (end_of r) ≡ rest_of g) (at : r ≡ Some f) where
+  pub found-item : (p : Option ℕ) (n : ℕ) → left_at s p ≡ rest_of (params_of (drop f.next s)) → high p ≤ length s → p ≡ Some n → Some (record { range = f.range; next = n }) ≡ item_found s i (after g (λ x m. mapped (λ ps. x) (params_of m)))
   found-item p n l h e = go g (sym at ∙ is) (rw at at left)
     where
-      params_at : (x : Item) (h : Parsed (List Parameter)) → left_at s (read.At n) ≡ rest_of h → item.Found (record { range = item_range i x; next = n }) ≡ item_found s i (mapped (λ ps. x) h)
-      params_at = unfold mapped item_found in (λ x. elim [ parsed ps m ↦ λ v. let w : n ≡ length s - length m = place-left s m n (omega (arith, ap high e)) (left-parsed s m n ps v) in (λ j. item.Found (record { range = item_range i x; next = w j })) | malformed ↦ λ v. absurd (left_not (List Parameter) s n v) ])
+      params_at : (x : Item) (h : Parsed (List Parameter)) → left_at s (Some n) ≡ rest_of h → Some (record { range = item_range i x; next = n }) ≡ item_found s i (mapped (λ ps. x) h)
+      params_at = unfold mapped item_found in (λ x. elim [ parsed ps m ↦ λ v. let w : n ≡ length s - length m = place-left s m n (omega (arith, ap high e)) (left-parsed s m n ps v) in (λ j. Some (record { range = item_range i x; next = w j })) | malformed ↦ λ v. absurd (left_not (List Parameter) s n v) ])
 
-      go : (k : Parsed Item) → item.Found f ≡ item_found s i k → left_at s (read.At f.next) ≡ rest_of k → item.Found (record { range = f.range; next = n }) ≡ item_found s i (after k (λ x m. mapped (λ ps. x) (params_of m)))
+      go : (k : Parsed Item) → Some f ≡ item_found s i k → left_at s (Some f.next) ≡ rest_of k → Some (record { range = f.range; next = n }) ≡ item_found s i (after k (λ x m. mapped (λ ps. x) (params_of m)))
       go = unfold item_found after in (elim [
         | parsed x m ↦ λ u v.
             let d : drop f.next s ≡ m = left-parsed s m f.next x v in
@@ -249,13 +246,13 @@ module _ (s : List ℕ) (i : ℕ) (g : Parsed Item) (r : ItemRead) (f : ItemFoun
         | malformed ↦ λ u v. absurd (left_not Item s f.next v)
       ])
 
-  pub found-unread : (p : Read) → left_at s p ≡ rest_of (params_of (drop f.next s)) → p ≡ read.Malformed → item.Malformed ≡ item_found s i (after g (λ x m. mapped (λ ps. x) (params_of m)))
+  pub found-unread : (p : Option ℕ) → left_at s p ≡ rest_of (params_of (drop f.next s)) → p ≡ None → None ≡ item_found s i (after g (λ x m. mapped (λ ps. x) (params_of m)))
   found-unread p l e = go g (rw at at left)
     where
-      params_none : (x : Item) (h : Parsed (List Parameter)) → left_at s read.Malformed ≡ rest_of h → item.Malformed ≡ item_found s i (mapped (λ ps. x) h)
+      params_none : (x : Item) (h : Parsed (List Parameter)) → left_at s None ≡ rest_of h → None ≡ item_found s i (mapped (λ ps. x) h)
       params_none = unfold mapped item_found in (λ x. elim [ parsed ps m ↦ λ v. absurd (none-parsed s m ps v) | malformed ↦ λ v. refl ])
 
-      go : (k : Parsed Item) → left_at s (read.At f.next) ≡ rest_of k → item.Malformed ≡ item_found s i (after k (λ x m. mapped (λ ps. x) (params_of m)))
+      go : (k : Parsed Item) → left_at s (Some f.next) ≡ rest_of k → None ≡ item_found s i (after k (λ x m. mapped (λ ps. x) (params_of m)))
       go = unfold after in (elim [
         | parsed x m ↦ λ v.
             let d : drop f.next s ≡ m = left-parsed s m f.next x v in
@@ -263,7 +260,7 @@ module _ (s : List ℕ) (i : ℕ) (g : Parsed Item) (r : ItemRead) (f : ItemFoun
         | malformed ↦ λ v. absurd (left_not Item s f.next v)
       ])
 
-pub found-bad : (s : List ℕ) (i : ℕ) (g : Parsed Item) (r : ItemRead) → left_at s (end_of r) ≡ rest_of g → r ≡ item.Malformed → item.Malformed ≡ item_found s i (after g (λ x m. mapped (λ ps. x) (params_of m)))
+pub found-bad : (s : List ℕ) (i : ℕ) (g : Parsed Item) (r : Option ItemFound) → left_at s (end_of r) ≡ rest_of g → r ≡ None → None ≡ item_found s i (after g (λ x m. mapped (λ ps. x) (params_of m)))
 unfolding item_found after
 found-bad s i (parsed x m) r l at = absurd (none-parsed s m x (rw at at l))
 found-bad s i malformed r l at = refl
@@ -271,20 +268,20 @@ found-bad s i malformed r l at = refl
 pub ruleset wholes = (found-item, found-unread, found-bad)
 
 -- the place past an item, for `search` and for `omega`
-pub end-found : (r : ItemRead) (f : ItemFound) → r ≡ item.Found f → end_of r ≡ read.At f.next
+pub end-found : (r : Option ItemFound) (f : ItemFound) → r ≡ Some f → end_of r ≡ Some f.next
 end-found r f e = ap end_of e
 
-pub end_none : (r : ItemRead) → r ≡ item.Malformed → end_of r ≡ read.Malformed
+pub end_none : (r : Option ItemFound) → r ≡ None → end_of r ≡ None
 end_none r e = ap end_of e
 
-pub found-low : (r : ItemRead) (f : ItemFound) → r ≡ item.Found f → low (end_of r) ≡ f.next
+pub found-low : (r : Option ItemFound) (f : ItemFound) → r ≡ Some f → low (end_of r) ≡ f.next
 found-low r f e = rw e
 
-pub found-high : (r : ItemRead) (f : ItemFound) → r ≡ item.Found f → high (end_of r) ≡ f.next
+pub found-high : (r : Option ItemFound) (f : ItemFound) → r ≡ Some f → high (end_of r) ≡ f.next
 found-high r f e = rw e
 
 -- what is read from the place past an item on ends past the item's start
-pub past-item : (s : List ℕ) (i n : ℕ) (r : ItemRead) (f : ItemFound) (p : Read) → i < low (end_of r) → high (end_of r) ≤ length s → r ≡ item.Found f → min f.next (length s) ≤ low p → p ≡ read.At n → i < n
+pub past-item : (s : List ℕ) (i n : ℕ) (r : Option ItemFound) (f : ItemFound) (p : Option ℕ) → i < low (end_of r) → high (end_of r) ≤ length s → r ≡ Some f → min f.next (length s) ≤ low p → p ≡ Some n → i < n
 past-item s i n r f p a b e c d = omega (arith, found-low r f e, found-high r f e, ap low d)
 
 -- the text that an item's range says is the item's
@@ -322,11 +319,11 @@ pub other-range : (s : List ℕ) (i : ℕ) → item_in s (item_range i other) �
 unfolding item_in item_range item_by
 other-range s i = refl
 
-pub other_at : (i : ℕ) → item_range i other ≡ record { kind = kind.Other; from = i; to = i }
+pub other_at : (i : ℕ) → item_range i other ≡ record { kind = kind.Other; text = record { from = i; to = i } }
 unfolding item_range
 other_at i = refl
 
 -- an answer's range and place, by the reading
-pub found-is : (s : List ℕ) (i : ℕ) (f : ItemFound) (x : Item) (m : List ℕ) → item.Found f ≡ item_found s i (parsed x m) → f ≡ record { range = item_range i x; next = length s - length m }
+pub found-is : (s : List ℕ) (i : ℕ) (f : ItemFound) (x : Item) (m : List ℕ) → Some f ≡ item_found s i (parsed x m) → f ≡ record { range = item_range i x; next = length s - length m }
 unfolding item_found
 found-is s i f x m e = cc

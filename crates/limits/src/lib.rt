@@ -21,33 +21,31 @@ pub const LAST_PORT: u32 = 65_535;
 
 pub const PORT_DIGITS: usize = 5;
 
-// Why a call is refused: the table of document 01, "The table of loaded documents".
-#[derive(Clone, Copy)]
+// Why a call is refused, by the number that document 01 gives it: the table of "The table of loaded documents".
+#[derive(Clone, Copy, PartialEq, Eq)]
 pub enum Refusal {
-    NotLoaded,
-    NoSuchFeature,
-    BadOrigin,
-    TooLong,
-    Sandbox,
-    Full,
-    Spent,
-    NotADictionary,
-    Small,
+    NotLoaded = 1,
+    NoSuchFeature = 2,
+    BadOrigin = 3,
+    TooLong = 4,
+    Sandbox = 5,
+    Full = 6,
+    Spent = 7,
+    NotADictionary = 8,
+    Small = 9,
 }
 
 // The number that document 01 gives a refusal.
 pub fn refusal_number(r: Refusal) -> u32
     ensures { result ≡ refusal_number r }
 {
-    match r {
-        Refusal::NotLoaded => 1,
-        Refusal::NoSuchFeature => 2,
-        Refusal::BadOrigin => 3,
-        Refusal::TooLong => 4,
-        Refusal::Sandbox => 5,
-        Refusal::Full => 6,
-        Refusal::Spent => 7,
-        Refusal::NotADictionary => 8,
-        Refusal::Small => 9,
+    r as u32
+}
+
+impl From<Refusal> for u32 {
+    ghost from_gives = { λ r n. n ≡ refusal_number r };
+
+    fn from(r: Refusal) -> u32 {
+        refusal_number(r)
     }
 }

@@ -4,11 +4,8 @@
 // written again with the answer after it.
 #![tactic(auto)]
 
-use ascii::Class;
-use features::{DefaultOf, Left, Lookup};
-use origins::{
-    ExpressionRange, HostKind, OriginRange, OriginText, PortPart, Scheme, Source, TupleRange,
-};
+use features::DefaultAllowlist;
+use origins::{ExpressionRange, HostKind, OriginRange, OriginText, PortPart, Scheme, TupleRange};
 use std::io;
 
 // Texts up to this length are written whole.
@@ -64,31 +61,30 @@ fn put_port(rt: &impl Print, p: PortPart) -> io::Result<()> {
 }
 
 fn put_tuple(rt: &impl Print, s: &[u8], r: TupleRange) -> io::Result<()> {
-    let k = r.scheme;
-    put_scheme(rt, k)?;
-    put_text(rt, b", host", ascii::part(s, r.from, r.to))?;
-    put_port(rt, PortPart::Number(r.port))
+    put_scheme(rt, r.parts.scheme)?;
+    put_text(rt, b", host", r.host.of(s))?;
+    put_port(rt, PortPart::Number(r.parts.port))
 }
 
 // What an origin text says.
 fn origin(rt: &impl Print, s: &[u8]) -> io::Result<()> {
     put_text(rt, b"origin", s)?;
     match origins::origin_text(s) {
-        OriginText::Empty => put(rt, b": empty\n"),
-        OriginText::Null => put(rt, b": null\n"),
-        OriginText::Tuple(r) => put_tuple(rt, s, r),
-        OriginText::NotAnOrigin => put(rt, b": no origin\n"),
+        Some(OriginText::Empty) => put(rt, b": empty\n"),
+        Some(OriginText::Null) => put(rt, b": null\n"),
+        Some(OriginText::Tuple(r)) => put_tuple(rt, s, r),
+        None => put(rt, b": no origin\n"),
     }
 }
 
 fn put_expression(rt: &impl Print, s: &[u8], e: ExpressionRange) -> io::Result<()> {
-    let k = e.scheme;
-    let kind = e.host;
-    let p = e.port;
-    let h = ascii::part(s, e.from, e.to);
-    put_scheme(rt, k)?;
+    let p = e.parts.port;
+    let h = e.host.of(s);
+    put_scheme(rt, e.parts.scheme)?;
+    let Some(kind) = e.parts.host else {
+        return put(rt, b" alone\n");
+    };
     match kind {
-        HostKind::None => put(rt, b" alone\n"),
         HostKind::Any => {
             put(rt, b", any host")?;
             put_port(rt, p)
@@ -108,31 +104,24 @@ fn put_expression(rt: &impl Print, s: &[u8], e: ExpressionRange) -> io::Result<(
 fn expression(rt: &impl Print, s: &[u8]) -> io::Result<()> {
     put_text(rt, b"expression", s)?;
     match origins::expression(s) {
-        Source::Expression(e) => put_expression(rt, s, e),
-        Source::NotAnExpression => put(rt, b": none\n"),
+        Some(e) => put_expression(rt, s, e),
+        None => put(rt, b": none\n"),
     }
 }
 
 // The origin of a text that is asked about: `null` is a fresh one.
-#[derive(Clone, Copy)]
-enum Said {
-    Origin(OriginRange),
-    None,
-}
-
-fn asked(t: &[u8]) -> Said {
-    match origins::origin_text(t) {
-        OriginText::Empty => Said::None,
-        OriginText::Null => Said::Origin(OriginRange::Fresh),
-        OriginText::Tuple(r) => Said::Origin(OriginRange::Tuple(r)),
-        OriginText::NotAnOrigin => Said::None,
+fn asked(t: &[u8]) -> Option<OriginRange> {
+    match origins::origin_text(t)? {
+        OriginText::Empty => None,
+        OriginText::Null => Some(OriginRange::Fresh),
+        OriginText::Tuple(r) => Some(OriginRange::Tuple(r)),
     }
 }
 
 fn put_admits(rt: &impl Print, s: &[u8], t: &[u8], o: OriginRange) -> io::Result<()> {
     match origins::expression(s) {
-        Source::Expression(e) => put_answer(rt, origins::admits(s, e, t, o)),
-        Source::NotAnExpression => put(rt, b": no expression\n"),
+        Some(e) => put_answer(rt, origins::admits(s, e, t, o)),
+        None => put(rt, b": no expression\n"),
     }
 }
 
@@ -141,8 +130,8 @@ fn admits(rt: &impl Print, s: &[u8], t: &[u8]) -> io::Result<()> {
     put_text(rt, b"admits", s)?;
     put_text(rt, b"", t)?;
     match asked(t) {
-        Said::Origin(o) => put_admits(rt, s, t, o),
-        Said::None => put(rt, b": no origin\n"),
+        Some(o) => put_admits(rt, s, t, o),
+        None => put(rt, b": no origin\n"),
     }
 }
 
@@ -150,12 +139,9 @@ fn admits(rt: &impl Print, s: &[u8], t: &[u8]) -> io::Result<()> {
 fn same(rt: &impl Print, s: &[u8], t: &[u8]) -> io::Result<()> {
     put_text(rt, b"same", s)?;
     put_text(rt, b"", t)?;
-    match asked(s) {
-        Said::Origin(a) => match asked(t) {
-            Said::Origin(b) => put_answer(rt, origins::same_origin(s, a, t, b)),
-            Said::None => put(rt, b": no origin\n"),
-        },
-        Said::None => put(rt, b": no origin\n"),
+    match (asked(s), asked(t)) {
+        (Some(a), Some(b)) => put_answer(rt, origins::same_origin(s, a, t, b)),
+        _ => put(rt, b": no origin\n"),
     }
 }
 
@@ -163,13 +149,11 @@ fn same(rt: &impl Print, s: &[u8], t: &[u8]) -> io::Result<()> {
 fn number(rt: &impl Print, n: u32) -> io::Result<()> {
     put(rt, b": number ")?;
     rt.print(n)?;
-    let name = features::name_of(n);
-    let bytes = name.bytes;
-    put_text(rt, b", name", ascii::part(&bytes, 0, name.len))?;
+    put_text(rt, b", name", features::name_of(n))?;
     match features::default_of(n) {
-        DefaultOf::All => put(rt, b", default *\n"),
-        DefaultOf::SelfOnly => put(rt, b", default self\n"),
-        DefaultOf::NoSuchFeature => put(rt, b", no such feature\n"),
+        Some(DefaultAllowlist::All) => put(rt, b", default *\n"),
+        Some(DefaultAllowlist::SelfOnly) => put(rt, b", default self\n"),
+        None => put(rt, b", no such feature\n"),
     }
 }
 
@@ -177,8 +161,8 @@ fn number(rt: &impl Print, n: u32) -> io::Result<()> {
 fn feature(rt: &impl Print, word: &[u8]) -> io::Result<()> {
     put_text(rt, b"feature", word)?;
     match features::feature_of(word) {
-        Lookup::Known(n) => number(rt, n),
-        Lookup::Unknown => put(rt, b": unknown\n"),
+        Some(n) => number(rt, n),
+        None => put(rt, b": unknown\n"),
     }
 }
 
@@ -186,41 +170,20 @@ fn feature(rt: &impl Print, word: &[u8]) -> io::Result<()> {
 fn left(rt: &impl Print, word: &[u8]) -> io::Result<()> {
     put_text(rt, b"left", word)?;
     match features::left_to_compare(word) {
-        Left::One(n) => {
+        Some(n) => {
             put(rt, b": ")?;
             rt.print(n)?;
             put(rt, b"\n")
         }
-        Left::Nothing => put(rt, b": nothing\n"),
-    }
-}
-
-// A text in quotes, and the place past it.
-#[derive(Clone, Copy)]
-struct Quoted {
-    from: usize,
-    to: usize,
-    past: usize,
-}
-
-// The next text in quotes of a line.
-fn next_text(line: &[u8], at: usize) -> Quoted {
-    let open = ascii::run_end(line, at, Class::Not(b'"'));
-    let from = ascii::place(line, open + 1);
-    let to = ascii::run_end(line, from, Class::Not(b'"'));
-    Quoted {
-        from,
-        to,
-        past: ascii::place(line, to + 1),
+        None => put(rt, b": nothing\n"),
     }
 }
 
 // A kind is told by its first letter.
 fn case(rt: &impl Print, line: &[u8]) -> io::Result<()> {
-    let one = next_text(line, 0);
-    let two = next_text(line, one.past);
-    let s = ascii::part(line, one.from, one.to);
-    let t = ascii::part(line, two.from, two.to);
+    let mut parts = line.split(|b| *b == b'"');
+    let s = parts.nth(1).unwrap_or(&[]); // the first text in quotes
+    let t = parts.nth(1).unwrap_or(&[]); // and the second
     match ascii::byte(line, 0) {
         b'o' => origin(rt, s),
         b'e' => expression(rt, s),
@@ -234,11 +197,8 @@ fn case(rt: &impl Print, line: &[u8]) -> io::Result<()> {
 
 // Each line of a list is a case, and ends in a line feed.
 fn cases(rt: &impl Print, list: &[u8]) -> io::Result<()> {
-    let mut i: usize = 0;
-    while i < list.len() {
-        let to = ascii::run_end(list, i, Class::Not(b'\n'));
-        case(rt, ascii::part(list, i, to))?;
-        i = to + 1;
+    for line in list.split_inclusive(|b| *b == b'\n') {
+        case(rt, line.strip_suffix(b"\n").unwrap_or(line))?;
     }
     Ok(())
 }

@@ -3,7 +3,7 @@ use mathlib.Core.Path.{◌≡◌, refl, ap, ◌∙◌, sym, subst}
 use Prim.Native.Nat.{ℕ, ◌+◌, ◌-◌, ◌≤◌}
 use mathlib.Core.List.{List, ◌++◌}
 use mathlib.Core.Bool.{Bool, true, false}
-use mathlib.Core.Option.{some, none}
+use Rattle.std.specs.Prelude.{Some, None}
 use native.Mathlib.Omega.{arith}
 use lib.ListN.{length, take, drop, length-append, length-drop, length-take}
 use lib.Seq.{take_at, drop-drop, drop-append-le}
@@ -12,7 +12,7 @@ use Rattle.ascii.proofs.Clash.{clash}
 use Rattle.limits.specs.Limits.{host_bytes, port_digits}
 use Rattle.ascii.specs.Bytes.{pick, lower}
 use Rattle.ascii.specs.Literals.{text}
-use Rattle.ascii.specs.Texts.{lowered, same_bytes, same_lowered, part_of}
+use Rattle.ascii.specs.Texts.{lowered, same_bytes, same_lowered, part_of, part_in}
 use Rattle.ascii.specs.Reading.{is_empty, next, run_of, past}
 use Rattle.ascii.proofs.Bytes.{and_right}
 use Rattle.ascii.proofs.Texts.{same-is, part-in}
@@ -47,7 +47,7 @@ part-run s n i r t h e g =
     sym p ∙ ap (take (n + i + m - (n + i))) q ∙ take_at (drop i r) t (n + i + m - (n + i)) (omega arith)
 
 -- the range that the code answers stands for the host part
-host-range : (k : Scheme) (s : List ℕ) (x : HostPart) → length (scheme_slashes k) ≤ length s → host_part_of (lowered (run_of not_colon (past_scheme k s))) ≡ some x → host_in (host_kind x) (lowered (part_of s (host_from k x) (host_to k x))) ≡ x
+host-range : (k : Scheme) (s : List ℕ) (x : HostPart) → length (scheme_slashes k) ≤ length s → host_part_of (lowered (run_of not_colon (past_scheme k s))) ≡ Some x → host_in (host_kind x) (lowered (part_of s (host_from k x) (host_to k x))) ≡ x
 host-range k s x h e = host-cases (lowered r) x e (host_in (host_kind x) (lowered (part_of s (host_from k x) (host_to k x))) ≡ x) any exact below
   where
     n : ℕ
@@ -75,13 +75,13 @@ host-range k s x h e = host-cases (lowered r) x e (host_in (host_kind x) (lowere
         rw (f, d, v) (ap (λ (l : List ℕ). subdomains_of (lowered l)) (part-run s n 2 r (past not_colon (drop n s)) h (run-cut not_colon (drop n s)) (omega arith)))
 
 -- the range that the code answers stands for the expression
-pub expression-range : (s : List ℕ) (e : SourceExpression) → expression_of s ≡ some e → expression_in s (expression_range e) ≡ e
+pub expression-range : (s : List ℕ) (e : SourceExpression) → expression_of s ≡ Some e → expression_in s (expression_range e) ≡ e
 expression-range s e f =
     source-cases s e f (expression_in s (expression_range e) ≡ e) (λ k g. rw g)
     (λ p. ap {B = SourceExpression} (λ (x : HostPart). record { scheme = e.scheme; host = x; port = e.port }) (host-range e.scheme s e.host p.long p.host))
 
 -- an expression that a text is has a host and a port by document 01
-port-good : (l : List ℕ) (p : PortPart) (a b c : Bool) → is_port_part l ≡ c → pick a (some Default) (pick b (some Any) (pick c (some (Number (decimal l))) none)) ≡ some p → GoodPort p
+port-good : (l : List ℕ) (p : PortPart) (a b c : Bool) → is_port_part l ≡ c → pick a (Some Default) (pick b (Some Any) (pick c (Some (Number (decimal l))) None)) ≡ Some p → GoodPort p
 unfolding pick
 port-good l p true b c u e = let q : Default ≡ p = cc in subst (λ (x : PortPart). GoodPort x) q tt
 port-good l p false true c u e = let q : Any ≡ p = cc in subst (λ (x : PortPart). GoodPort x) q tt
@@ -90,16 +90,16 @@ port-good l p false false true u e =
     subst (λ (x : PortPart). GoodPort x) q (number-most l (and_right (leb (length l) port_digits) (is_number l) (unfold is_port_part in u)))
 port-good l p false false false u e = clash cc
 
-part-good : (l : List ℕ) (p : PortPart) → port_part_of l ≡ some p → GoodPort p
+part-good : (l : List ℕ) (p : PortPart) → port_part_of l ≡ Some p → GoodPort p
 unfolding port_part_of next
 part-good l p e = port-good (drop 1 l) p (is_empty l) (same_bytes (drop 1 l) (text "*")) (is_port_part (drop 1 l)) refl e
 
-host-good : (g : List ℕ) (x : HostPart) (p : PortPart) → host_part_of g ≡ some x → GoodHost x p
+host-good : (g : List ℕ) (x : HostPart) (p : PortPart) → host_part_of g ≡ Some x → GoodHost x p
 host-good g x p e =
     host-cases g x e (GoodHost x p) (λ f. subst (λ (y : HostPart). GoodHost y p) (sym f) tt)
     (λ h f. subst (λ (y : HostPart). GoodHost y p) (sym f) h) (λ h f. subst (λ (y : HostPart). GoodHost y p) (sym f) h)
 
-pub expression-good : (s : List ℕ) (e : SourceExpression) → expression_of s ≡ some e → GoodExpression e
+pub expression-good : (s : List ℕ) (e : SourceExpression) → expression_of s ≡ Some e → GoodExpression e
 expression-good s e f =
     source-cases s e f (GoodExpression e) (λ k g. subst (λ (y : SourceExpression). GoodExpression y) (sym g) (record { host = refl; port = tt }))
     (λ p. record { host = host-good (lowered (run_of not_colon (past_scheme e.scheme s))) e.host e.port p.host; port = part-good (past not_colon (past_scheme e.scheme s)) e.port p.port })
@@ -122,7 +122,7 @@ module _ (x : List ℕ) (y : SourceExpression) where
   named_by (exact_host h) f q g = named-is h (cc) g
   named_by (subdomains_of h) f q g = named-is h (cc) g
 
-  pub named-short : expression_of x ≡ some y → length (part_of x (expression_range y).from (expression_range y).to) ≤ host_bytes
+  pub named-short : expression_of x ≡ Some y → length (part_in x (expression_range y).host) ≤ host_bytes
   unfolding named
   named-short e = named_by y.host refl (ap (λ (z : SourceExpression). z.host) (expression-range x y e)) (expression-good x y e).host
 
@@ -130,11 +130,11 @@ module _ (x : List ℕ) (y : SourceExpression) where
 same_length : (s t : List ℕ) → same_lowered s t ≡ true → length s ≡ length t
 same_length s t e = sym (each-length lower s) ∙ ap length (same-is lower s t e)
 
-pub expression-long : (s : List ℕ) (e : SourceExpression) → expression_of s ≡ some e → length (scheme_text Http) ≤ length s
+pub expression-long : (s : List ℕ) (e : SourceExpression) → expression_of s ≡ Some e → length (scheme_text Http) ≤ length s
 unfolding expression_of
 expression-long s e f = go (same_lowered s (scheme_text Http)) (same_lowered s (scheme_text Https)) (starts_lowered (scheme_slashes Http) s) (starts_lowered (scheme_slashes Https) s) refl refl refl refl f
   where
-    go : (a b c d : Bool) → same_lowered s (scheme_text Http) ≡ a → same_lowered s (scheme_text Https) ≡ b → starts_lowered (scheme_slashes Http) s ≡ c → starts_lowered (scheme_slashes Https) s ≡ d → pick a (some (scheme_source Http)) (pick b (some (scheme_source Https)) (pick c (host_source_of Http (past_scheme Http s)) (pick d (host_source_of Https (past_scheme Https s)) none))) ≡ some e → length (scheme_text Http) ≤ length s
+    go : (a b c d : Bool) → same_lowered s (scheme_text Http) ≡ a → same_lowered s (scheme_text Https) ≡ b → starts_lowered (scheme_slashes Http) s ≡ c → starts_lowered (scheme_slashes Https) s ≡ d → pick a (Some (scheme_source Http)) (pick b (Some (scheme_source Https)) (pick c (host_source_of Http (past_scheme Http s)) (pick d (host_source_of Https (past_scheme Https s)) None))) ≡ Some e → length (scheme_text Http) ≤ length s
     go true b c d p q u v g = omega (arith, same_length s (scheme_text Http) p)
     go false true c d p q u v g = omega (arith, same_length s (scheme_text Https) q)
     go false false true d p q u v g = omega (arith, starts-lowered-long (scheme_slashes Http) s true (sym u) refl)

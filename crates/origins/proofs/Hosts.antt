@@ -7,7 +7,7 @@ use native.Mathlib.Numerals.{add-one}
 use lib.ListN.{length, get_or, drop, drop_of_length-le}
 use lib.Seq.{drop-cons}
 use lib.Dec.{eqb}
-use borrow.Author.Tests.{eq-eqb, ne_eqb, not-true, not-false}
+use borrow.Author.Tests.{eq-eqb, ne_eqb}
 use Rattle.ascii.specs.Bytes.{pick, is_label_byte}
 use Rattle.ascii.specs.Texts.{every, each, prepended, cut_at}
 use Rattle.ascii.specs.Reading.{is_empty}
@@ -75,10 +75,10 @@ module _ (f : ℕ → ℕ) (h : List ℕ) (i : ℕ) (fresh r : Bool) where
     unfolding pick
     scan-dot d t = rw (eq-eqb x 46 d, t) at at_byte
 
-    pub scan-other : (x ≡ 46 → ⊥) → (b : Bool) → b ≡ is_label_byte x → not b ≡ true → false ≡ r
+    pub scan-other : (x ≡ 46 → ⊥) → (b : Bool) → b ≡ is_label_byte x → b ≡ false → false ≡ r
     unfolding pick
-    scan-other d b u t = let v : is_label_byte x ≡ false = sym u ∙ not-true b t in rw (ne_eqb x 46 d, v) at at_byte
+    scan-other d b u t = let v : is_label_byte x ≡ false = sym u ∙ t in rw (ne_eqb x 46 d, v) at at_byte
 
-    pub scan-byte : (x ≡ 46 → ⊥) → (b : Bool) → b ≡ is_label_byte x → not b ≡ false → scan false (each f (drop (i + 1) h)) ≡ r
+    pub scan-byte : (x ≡ 46 → ⊥) → (b : Bool) → b ≡ is_label_byte x → b ≡ true → scan false (each f (drop (i + 1) h)) ≡ r
     unfolding pick
-    scan-byte d b u t = let v : is_label_byte x ≡ true = sym u ∙ not-false b t in rw (ne_eqb x 46 d, v) at at_byte
+    scan-byte d b u t = let v : is_label_byte x ≡ true = sym u ∙ t in rw (ne_eqb x 46 d, v) at at_byte

@@ -3,7 +3,7 @@ use mathlib.Core.Path.{◌≡◌, refl, ap, ◌∙◌, sym}
 use Prim.Native.Nat.{ℕ, ◌+◌, ◌-◌, ◌≤◌, ◌<◌}
 use mathlib.Core.List.{List, [], ◌∷◌, ◌++◌}
 use mathlib.Core.Bool.{Bool, true, false, not, ◌&&◌}
-use mathlib.Core.Option.{some, none}
+use Rattle.std.specs.Prelude.{Some, None}
 use native.Mathlib.Omega.{arith}
 use lib.ListN.{length, take, drop, length-append, length-take, take-append-drop}
 use lib.Seq.{take_at, drop_at}
@@ -35,10 +35,11 @@ pub use Rattle.origins.proofs.OriginHosts.{host-origin, origin-host-some, origin
 pub use Rattle.origins.proofs.ExpressionTexts.{expression-range, expression-good, named-short, expression-long}
 pub use Rattle.origins.proofs.Parts.{scheme-is, scheme-self, scheme-own, schemes-one, http-admits, https-admits, admits-tuple, admits-parts, admits-no-host, admits-any-host, admits-exact, admits-below, admits-default, admits-any-port, admits-number, text-no-host, text-any-host, text-exact, text-below, text-default, text-any-port, text-number, normal-parts, form-parts, same_parts, opaque-tuple, label-no-dot, pair-host, letter-below, pair-below, before-dot}
 pub use Rattle.origins.proofs.PlainTexts.{expression-plain}
+use Rattle.origins.proofs.NormalForms.{ports-is, port-self}
 use Rattle.origins.proofs.Numbers.{number-most}
 use Rattle.origins.proofs.Decimals.{port-canonical, port-short}
 -- numbers in decimal, read up to a limit
-pub use Rattle.origins.proofs.Numbers.{read_from, read_is, read-end, read-other, read-great, read_more, digit-high, long-number}
+pub use Rattle.origins.proofs.Numbers.{long-number}
 pub use Rattle.origins.proofs.ReadBack.{expression-back, good-tuple}
 use Rattle.origins.proofs.ReadBack.{Follows}
 use Rattle.origins.proofs.ReadBack.Follows.{nothing, colon}
@@ -55,7 +56,7 @@ pub default-most : (k : Scheme) → default_port k ≤ last_port
 default-most Http = omega arith
 default-most Https = omega arith
 
-port-is : (k : Scheme) (ds : List ℕ) (n : ℕ) (b : Bool) → is_port k ds ≡ b → pick b (some (decimal ds)) none ≡ some n → PortSaid k (58 ∷ ds) n
+port-is : (k : Scheme) (ds : List ℕ) (n : ℕ) (b : Bool) → is_port k ds ≡ b → pick b (Some (decimal ds)) None ≡ Some n → PortSaid k (58 ∷ ds) n
 unfolding is_port pick
 port-is k ds n true u f =
     let d : decimal ds ≡ n = cc in
@@ -67,7 +68,7 @@ port-is k ds n true u f =
     record { is = rw (q, c); most = rw d at (number-most ds a); short = omega (arith, port-short ds a z) }
 port-is k ds n false u f = clash cc
 
-port-said : (k : Scheme) {m : List ℕ} (n : ℕ) → Follows m → origin_port k m ≡ some n → PortSaid k m n
+port-said : (k : Scheme) {m : List ℕ} (n : ℕ) → Follows m → origin_port k m ≡ Some n → PortSaid k m n
 unfolding origin_port is_empty next pick
 port-said k n nothing f =
     let d : default_port k ≡ n = cc in
@@ -286,11 +287,11 @@ host-stays-good k (subdomains_of h) p g = g
 pub normal-good : (e : SourceExpression) → GoodExpression e → GoodExpression (normal e)
 normal-good e g = record { host = unfold normal in host-stays-good e.scheme e.host e.port g.host; port = unfold normal in port-stays-good e.scheme e.port g.port }
 
-pub normal-reads : (s : List ℕ) (e : SourceExpression) → expression_of s ≡ some e → expression_of (normal_form e) ≡ some (normal e)
+pub normal-reads : (s : List ℕ) (e : SourceExpression) → expression_of s ≡ Some e → expression_of (normal_form e) ≡ Some (normal e)
 normal-reads s e f = expression-back (normal e) (normal-good e (expression-good s e f))
 
 -- so normal forms are fixed points
-pub normal-fixed : (s : List ℕ) (e d : SourceExpression) → expression_of s ≡ some e → expression_of (normal_form e) ≡ some d → normal_form d ≡ normal_form e
+pub normal-fixed : (s : List ℕ) (e d : SourceExpression) → expression_of s ≡ Some e → expression_of (normal_form e) ≡ Some d → normal_form d ≡ normal_form e
 normal-fixed s e d f g =
     let q : normal e ≡ d = cc (normal-reads s e f) in
     ap expression_text (ap normal (sym q) ∙ normal-normal e)
@@ -315,18 +316,6 @@ hosts-is (subdomains_of a) any_host e = clash cc
 hosts-is (subdomains_of a) (exact_host b) e = clash cc
 hosts-is (subdomains_of a) (subdomains_of b) e = ap subdomains_of (bytes_same a b e)
 
-ports-is : (p q : PortPart) → same_port p q ≡ true → p ≡ q
-unfolding same_port
-ports-is Default Default e = refl
-ports-is Default Any e = clash cc
-ports-is Default (Number n) e = clash cc
-ports-is Any Default e = clash cc
-ports-is Any Any e = refl
-ports-is Any (Number n) e = clash cc
-ports-is (Number m) Default e = clash cc
-ports-is (Number m) Any e = clash cc
-ports-is (Number m) (Number n) e = ap Number (eqb-true m n e)
-
 pub same-expression-is : (a b : SourceExpression) → same_expression a b ≡ true → a ≡ b
 unfolding same_expression
 same-expression-is a b e =
@@ -342,12 +331,6 @@ host-self no_host = refl
 host-self any_host = refl
 host-self (exact_host a) = same-bytes a
 host-self (subdomains_of a) = same-bytes a
-
-port-self : (p : PortPart) → same_port p p ≡ true
-unfolding same_port
-port-self Default = refl
-port-self Any = refl
-port-self (Number n) = eq-eqb n n refl
 
 pub same-expression-self : (a : SourceExpression) → same_expression a a ≡ true
 unfolding same_expression

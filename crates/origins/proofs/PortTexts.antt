@@ -71,9 +71,9 @@ module _ (n : ℕ) (bytes : List ℕ) (from left d : ℕ) (w : Writing n bytes f
   pub writing-last : left < 10 → IsPortText n (record { bytes = set bytes (from - 1) d; from = from - 1 })
   writing-last h = last n bytes (from - 1) left d one_less is h
 
-pub writing-end : (n : ℕ) (bytes : List ℕ) (from left : ℕ) → Writing n bytes from left → from ≤ 0 → IsPortText n (record { bytes = bytes; from = from })
+pub writing-end : (n : ℕ) (bytes : List ℕ) (from left : ℕ) → Writing n bytes from left → from ≤ 0 → IsPortText n (record { bytes = bytes; from = 0 })
 writing-end n bytes from left w h =
     let e : from ≡ 0 = omega arith in
     let v : Writing n bytes 0 left = rw e at w in
     let t : bytes ≡ port_text n = unfold last_digits in v.rest in
-    rw e (record { from = omega (arith, ap length t, v.long); bytes = t; text = t })
+    record { from = omega (arith, ap length t, v.long); bytes = t; text = t }

@@ -3,7 +3,7 @@ use mathlib.Core.Path.{◌≡◌, refl}
 use Prim.Native.Nat.{ℕ, ◌≤◌}
 use mathlib.Core.List.{List, [], ◌∷◌, ◌++◌, append-nil}
 use mathlib.Core.Bool.{Bool, true, false}
-use mathlib.Core.Option.{some}
+use Rattle.std.specs.Prelude.{Some}
 use native.Mathlib.Omega.{arith}
 use lib.ListN.{length}
 use lib.Dec.{eqb}
@@ -52,7 +52,7 @@ digits-no-star (x ∷ ds) h e =
     rw (ne_eqb x 42 (λ k. omega arith))
 
 -- a port-part is read back
-pub port-part-back : (p : PortPart) → GoodPort p → port_part_of (port_part_text p) ≡ some p
+pub port-part-back : (p : PortPart) → GoodPort p → port_part_of (port_part_text p) ≡ Some p
 unfolding port_part_of port_part_text is_empty next same_by pick
 port-part-back Default g = refl
 port-part-back Any g = refl
@@ -65,7 +65,7 @@ port-part-follows Any = colon
 port-part-follows (Number n) = colon
 
 -- a host is read as one, and not as a wildcard
-host-exact-back : (h : List ℕ) → is_host h ≡ true → host_part_of h ≡ some (exact_host h)
+host-exact-back : (h : List ℕ) → is_host h ≡ true → host_part_of h ≡ Some (exact_host h)
 unfolding host_part_of starts_with same_by pick
 host-exact-back [] e = absurd (omega (arith, host-some [] e))
 host-exact-back (x ∷ xs) e =
@@ -86,12 +86,12 @@ hosted Http l = http-hosted l
 hosted Https l = https-hosted l
 
 -- a host part and a port-part, read back together
-parts-back : (k : Scheme) (g : List ℕ) (x : HostPart) (p : PortPart) → every not_colon g ≡ true → host_part_of (lowered g) ≡ some x → GoodPort p → expression_of (scheme_slashes k ++ (g ++ port_part_text p)) ≡ some (record { scheme = k; host = x; port = p })
+parts-back : (k : Scheme) (g : List ℕ) (x : HostPart) (p : PortPart) → every not_colon g ≡ true → host_part_of (lowered g) ≡ Some x → GoodPort p → expression_of (scheme_slashes k ++ (g ++ port_part_text p)) ≡ Some (record { scheme = k; host = x; port = p })
 unfolding host_source_of with_parts
 parts-back k g x p e f h =
     rw (hosted k (g ++ port_part_text p), host-run g e (port-part-follows p), host-past g e (port-part-follows p), f, port-part-back p h)
 
-by-parts-back : (k : Scheme) (x : HostPart) (p : PortPart) → GoodHost x p → GoodPort p → expression_of (expression_parts_text k x p) ≡ some (record { scheme = k; host = x; port = p })
+by-parts-back : (k : Scheme) (x : HostPart) (p : PortPart) → GoodHost x p → GoodPort p → expression_of (expression_parts_text k x p) ≡ Some (record { scheme = k; host = x; port = p })
 unfolding expression_parts_text
 by-parts-back Http no_host p g h = unfold expression_of same_by lower pick in rw g
 by-parts-back Https no_host p g h = unfold expression_of same_by lower pick in rw g
@@ -103,7 +103,7 @@ by-parts-back k (subdomains_of x) p g h =
     (unfold host_part_of starts_with each same_by lower pick in rw (host-lower x (host-bytes x g), g)) h
 
 -- a good expression is read back from its text
-pub expression-back : (e : SourceExpression) → GoodExpression e → expression_of (expression_text e) ≡ some e
+pub expression-back : (e : SourceExpression) → GoodExpression e → expression_of (expression_text e) ≡ Some e
 expression-back e g = by-parts-back e.scheme e.host e.port g.host g.port
 
 -- the same of origins
@@ -117,7 +117,7 @@ unfolding pick
 port-follows true ds = nothing
 port-follows false ds = colon
 
-origin-port-back : (b : Bool) (k : Scheme) (n : ℕ) → n ≤ last_port → eqb n (default_port k) ≡ b → origin_port k (pick b [] (58 ∷ port_text n)) ≡ some n
+origin-port-back : (b : Bool) (k : Scheme) (n : ℕ) → n ≤ last_port → eqb n (default_port k) ≡ b → origin_port k (pick b [] (58 ∷ port_text n)) ≡ Some n
 unfolding origin_port is_port is_empty next pick
 origin-port-back true k n h e = rw (eqb-true n (default_port k) e)
 origin-port-back false k n h e = rw (port-number n h, port-lead n h, port-back n h, e)

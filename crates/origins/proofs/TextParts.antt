@@ -3,7 +3,7 @@ use mathlib.Core.Path.{◌≡◌, refl, ap, ◌∙◌, sym}
 use Prim.Native.Nat.{ℕ, ◌≤◌}
 use mathlib.Core.List.{List, [], ◌∷◌, ◌++◌}
 use mathlib.Core.Bool.{Bool, true, false, not}
-use mathlib.Core.Option.{Option, some, none}
+use Rattle.std.specs.Prelude.{Option, Some, None}
 use lib.ListN.{length, take, drop, take-append-drop}
 use lib.Dec.{eqb}
 use borrow.Author.Tests.{eqb-true}
@@ -51,15 +51,15 @@ pub record OriginParts (s : List ℕ) (o : TupleOrigin) : Type 0 where
   pub follows : Follows rest
   pub is : s ≡ scheme_slashes o.scheme ++ (o.host ++ rest)
   pub host : is_origin_host o.host ≡ true
-  pub port : origin_port o.scheme rest ≡ some o.port
+  pub port : origin_port o.scheme rest ≡ Some o.port
 
 tuple-said : (k : Scheme) (s l : List ℕ) (o : TupleOrigin) → s ≡ scheme_slashes k ++ l → (b : Bool) (q : Option ℕ) → is_origin_host (run_of not_colon l) ≡ b → origin_port k (past not_colon l) ≡ q → pick b (with_port k (run_of not_colon l) q) no_origin ≡ says_tuple o → OriginParts s o
 unfolding pick with_port
-tuple-said k s l o e true (some n) h p f =
+tuple-said k s l o e true (Some n) h p f =
     let r : ◌≡◌ {A = TupleOrigin} (record { scheme = k; host = run_of not_colon l; port = n }) o = cc in
     let x : OriginParts s (record { scheme = k; host = run_of not_colon l; port = n }) = record { rest = past not_colon l; follows = colon-follows l; is = e ∙ ap (λ (m : List ℕ). scheme_slashes k ++ m) (run-cut not_colon l); host = h; port = p } in
     rw r at x
-tuple-said k s l o e true none h p f = clash cc
+tuple-said k s l o e true None h p f = clash cc
 tuple-said k s l o e false q h p f = clash cc
 
 tuple-parts : (k : Scheme) (s : List ℕ) (o : TupleOrigin) → starts_with (scheme_slashes k) s ≡ true → tuple_of k (past_scheme k s) ≡ says_tuple o → OriginParts s o
@@ -85,8 +85,8 @@ unfolding tuple_of
 tuple-no-empty k l = go (is_origin_host (run_of not_colon l)) (origin_port k (past not_colon l))
   where
     go : (b : Bool) (q : Option ℕ) → (pick b (with_port k (run_of not_colon l) q) no_origin ≡ says_empty → ⊥) × (pick b (with_port k (run_of not_colon l) q) no_origin ≡ says_null → ⊥)
-    go true (some n) = (λ f. clash (unfold pick with_port in cc), λ f. clash (unfold pick with_port in cc))
-    go true none = (λ f. clash (unfold pick with_port in cc), λ f. clash (unfold pick with_port in cc))
+    go true (Some n) = (λ f. clash (unfold pick with_port in cc), λ f. clash (unfold pick with_port in cc))
+    go true None = (λ f. clash (unfold pick with_port in cc), λ f. clash (unfold pick with_port in cc))
     go false q = (λ f. clash (unfold pick in cc), λ f. clash (unfold pick in cc))
 
 pub empty-text : (s : List ℕ) → origin_of s ≡ says_empty → s ≡ []
@@ -112,7 +112,7 @@ null-text s e = go (is_empty s) (same_bytes s null_text) (starts_with (scheme_sl
     go false false false false u f = clash (unfold pick in cc)
 
 -- a host part is one of three
-host-said : (g : List ℕ) (x : HostPart) (a b c d : Bool) → is_host (drop 2 g) ≡ c → is_host g ≡ d → pick a (some any_host) (pick b (pick c (some (subdomains_of (drop 2 g))) none) (pick d (some (exact_host g)) none)) ≡ some x → (P : Type 0) → (x ≡ any_host → P) → (is_host g ≡ true → x ≡ exact_host g → P) → (is_host (drop 2 g) ≡ true → x ≡ subdomains_of (drop 2 g) → P) → P
+host-said : (g : List ℕ) (x : HostPart) (a b c d : Bool) → is_host (drop 2 g) ≡ c → is_host g ≡ d → pick a (Some any_host) (pick b (pick c (Some (subdomains_of (drop 2 g))) None) (pick d (Some (exact_host g)) None)) ≡ Some x → (P : Type 0) → (x ≡ any_host → P) → (is_host g ≡ true → x ≡ exact_host g → P) → (is_host (drop 2 g) ≡ true → x ≡ subdomains_of (drop 2 g) → P) → P
 unfolding pick
 host-said g x true b c d u v e P l m n = l cc
 host-said g x false true true d u v e P l m n = n u cc
@@ -120,35 +120,35 @@ host-said g x false true false d u v e P l m n = clash cc
 host-said g x false false c true u v e P l m n = m v cc
 host-said g x false false c false u v e P l m n = clash cc
 
-pub host-cases : (g : List ℕ) (x : HostPart) → host_part_of g ≡ some x → (P : Type 0) → (x ≡ any_host → P) → (is_host g ≡ true → x ≡ exact_host g → P) → (is_host (drop 2 g) ≡ true → x ≡ subdomains_of (drop 2 g) → P) → P
+pub host-cases : (g : List ℕ) (x : HostPart) → host_part_of g ≡ Some x → (P : Type 0) → (x ≡ any_host → P) → (is_host g ≡ true → x ≡ exact_host g → P) → (is_host (drop 2 g) ≡ true → x ≡ subdomains_of (drop 2 g) → P) → P
 unfolding host_part_of
 host-cases g x e P l m n = host-said g x (same_bytes g (text "*")) (starts_with (text "*.") g) (is_host (drop 2 g)) (is_host g) refl refl e P l m n
 
 -- a text that is an expression: a scheme alone, or past its scheme and `://` a host part and a port-part
 pub record SourceParts (s : List ℕ) (e : SourceExpression) : Type 0 where
   pub long : length (scheme_slashes e.scheme) ≤ length s
-  pub host : host_part_of (lowered (run_of not_colon (past_scheme e.scheme s))) ≡ some e.host
-  pub port : port_part_of (past not_colon (past_scheme e.scheme s)) ≡ some e.port
+  pub host : host_part_of (lowered (run_of not_colon (past_scheme e.scheme s))) ≡ Some e.host
+  pub port : port_part_of (past not_colon (past_scheme e.scheme s)) ≡ Some e.port
 
-source-said : (k : Scheme) (s : List ℕ) (e : SourceExpression) → length (scheme_slashes k) ≤ length s → (x : Option HostPart) (p : Option PortPart) → host_part_of (lowered (run_of not_colon (past_scheme k s))) ≡ x → port_part_of (past not_colon (past_scheme k s)) ≡ p → with_parts k x p ≡ some e → SourceParts s e
+source-said : (k : Scheme) (s : List ℕ) (e : SourceExpression) → length (scheme_slashes k) ≤ length s → (x : Option HostPart) (p : Option PortPart) → host_part_of (lowered (run_of not_colon (past_scheme k s))) ≡ x → port_part_of (past not_colon (past_scheme k s)) ≡ p → with_parts k x p ≡ Some e → SourceParts s e
 unfolding with_parts
-source-said k s e n (some x) (some p) h q f =
+source-said k s e n (Some x) (Some p) h q f =
     let r : ◌≡◌ {A = SourceExpression} (record { scheme = k; host = x; port = p }) e = cc in
     let y : SourceParts s (record { scheme = k; host = x; port = p }) = record { long = n; host = h; port = q } in
     rw r at y
-source-said k s e n (some x) none h q f = clash cc
-source-said k s e n none p h q f = clash cc
+source-said k s e n (Some x) None h q f = clash cc
+source-said k s e n None p h q f = clash cc
 
-source-parts : (k : Scheme) (s : List ℕ) (e : SourceExpression) → starts_lowered (scheme_slashes k) s ≡ true → host_source_of k (past_scheme k s) ≡ some e → SourceParts s e
+source-parts : (k : Scheme) (s : List ℕ) (e : SourceExpression) → starts_lowered (scheme_slashes k) s ≡ true → host_source_of k (past_scheme k s) ≡ Some e → SourceParts s e
 unfolding host_source_of
 source-parts k s e u f =
     source-said k s e (starts-lowered-long (scheme_slashes k) s true (sym u) refl) (host_part_of (lowered (run_of not_colon (past_scheme k s)))) (port_part_of (past not_colon (past_scheme k s))) refl refl f
 
-pub source-cases : (s : List ℕ) (e : SourceExpression) → expression_of s ≡ some e → (P : Type 0) → ((k : Scheme) → e ≡ scheme_source k → P) → (SourceParts s e → P) → P
+pub source-cases : (s : List ℕ) (e : SourceExpression) → expression_of s ≡ Some e → (P : Type 0) → ((k : Scheme) → e ≡ scheme_source k → P) → (SourceParts s e → P) → P
 unfolding expression_of
 source-cases s e f P l m = go (same_lowered s (scheme_text Http)) (same_lowered s (scheme_text Https)) (starts_lowered (scheme_slashes Http) s) (starts_lowered (scheme_slashes Https) s) refl refl f
   where
-    go : (a b c d : Bool) → starts_lowered (scheme_slashes Http) s ≡ c → starts_lowered (scheme_slashes Https) s ≡ d → pick a (some (scheme_source Http)) (pick b (some (scheme_source Https)) (pick c (host_source_of Http (past_scheme Http s)) (pick d (host_source_of Https (past_scheme Https s)) none))) ≡ some e → P
+    go : (a b c d : Bool) → starts_lowered (scheme_slashes Http) s ≡ c → starts_lowered (scheme_slashes Https) s ≡ d → pick a (Some (scheme_source Http)) (pick b (Some (scheme_source Https)) (pick c (host_source_of Http (past_scheme Http s)) (pick d (host_source_of Https (past_scheme Https s)) None))) ≡ Some e → P
     go true b c d u v g = l Http (unfold pick in cc)
     go false true c d u v g = l Https (unfold pick in cc)
     go false false true d u v g = m (source-parts Http s e u (unfold pick in g))

@@ -1,7 +1,7 @@
 -- The settled readings of origin texts, expressions and matching, by computation.
 use Rattle.std.specs.Prelude.{ℕ, ◌≡◌, refl, List, [], ◌∷◌, ◌++◌, map, Bool, true, false, not, ◌&&◌}
 use Prim.Native.String.{String}
-use Rattle.std.proofs.Math.Option.{Option, some, none}
+use Rattle.std.specs.Prelude.{Option, Some, None}
 use Rattle.ascii.specs.Bytes.{pick}
 use Rattle.ascii.specs.Literals.{text}
 use Rattle.ascii.specs.Texts.{every, same_bytes}
@@ -20,19 +20,19 @@ pub data Case : Type 0 where
 
 -- whether an expression and an origin, as read, admit; none where the one is none or the other no tuple
 abbrev verdict : Option SourceExpression → OriginSaid → Option Bool
-verdict (some e) (says_tuple o) = some (admits e (tuple o))
-verdict (some e) says_empty = none
-verdict (some e) says_null = none
-verdict (some e) no_origin = none
-verdict none o = none
+verdict (Some e) (says_tuple o) = Some (admits e (tuple o))
+verdict (Some e) says_empty = None
+verdict (Some e) says_null = None
+verdict (Some e) no_origin = None
+verdict None o = None
 
 abbrev is_yes : Option Bool → Bool
-is_yes (some b) = b
-is_yes none = false
+is_yes (Some b) = b
+is_yes None = false
 
 abbrev is_no : Option Bool → Bool
-is_no (some b) = not b
-is_no none = false
+is_no (Some b) = not b
+is_no None = false
 
 abbrev right : Case → Bool
 right (admitted e o) = is_yes (verdict (expression_of (text e)) (origin_of (text o)))
@@ -65,8 +65,8 @@ https_ports = ":80" ∷ "" ∷ ":8080" ∷ ":8081" ∷ []
 
 -- `y` if the expression admits the origin, `-` if not; 0 if the one is no expression or the other no tuple origin
 abbrev mark : Option Bool → ℕ
-mark (some b) = pick b 121 45
-mark none = 0
+mark (Some b) = pick b 121 45
+mark None = 0
 
 abbrev marks : String → String → String → List String → List ℕ
 marks e scheme host ports = map (λ p. mark (verdict (expression_of (text e)) (origin_of (text scheme ++ (text host ++ text p))))) ports
@@ -169,12 +169,12 @@ pub data Form : Type 0 where
   nothing : String → Form
 
 abbrev same_form : List ℕ → Option SourceExpression → Bool
-same_form t (some e) = same_bytes (normal_form e) t
-same_form t none = false
+same_form t (Some e) = same_bytes (normal_form e) t
+same_form t None = false
 
 abbrev no_form : Option SourceExpression → Bool
-no_form (some e) = false
-no_form none = true
+no_form (Some e) = false
+no_form None = true
 
 abbrev formed : Form → Bool
 formed (form s t) = same_form (text t) (expression_of (text s))

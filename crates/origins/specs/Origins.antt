@@ -1,6 +1,6 @@
 -- 01, "Origins and expressions": origins and origin texts.
 use Rattle.std.specs.Prelude.{ℕ, List, Bool, not, length, take, drop, eqb}
-use Rattle.std.proofs.Math.Option.{Option, some, none}
+use Rattle.std.specs.Prelude.{Option, Some, None}
 use Rattle.ascii.specs.Bytes.{pick}
 use Rattle.ascii.specs.Literals.{text}
 use Rattle.ascii.specs.Texts.{same_bytes}
@@ -51,8 +51,8 @@ abbrev pub not_colon : ℕ → Bool
 not_colon b = not (eqb b 58)
 
 unfoldable pub with_port : Scheme → List ℕ → Option ℕ → OriginSaid
-with_port k h (some n) = says_tuple (record { scheme = k; host = h; port = n })
-with_port k h none = no_origin
+with_port k h (Some n) = says_tuple (record { scheme = k; host = h; port = n })
+with_port k h None = no_origin
 
 -- past the scheme: "a host, and perhaps `:` and a port"
 unfoldable pub tuple_of : Scheme → List ℕ → OriginSaid

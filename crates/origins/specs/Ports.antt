@@ -1,6 +1,6 @@
 -- 01, "Origins and expressions": ports.
 use Rattle.std.specs.Prelude.{ℕ, List, Bool, not, ◌&&◌, length, leb, eqb}
-use Rattle.std.proofs.Math.Option.{Option, some, none}
+use Rattle.std.specs.Prelude.{Option, Some, None}
 use Rattle.limits.specs.Limits.{last_port, port_digits}
 use Rattle.ascii.specs.Bytes.{pick, is_digit}
 use Rattle.ascii.specs.Literals.{text}
@@ -27,7 +27,7 @@ is_port k ds = is_number ds && not (leads_zero ds) && not (eqb (decimal ds) (def
 
 -- what follows an origin's host, nothing or `:` and a port: the port, with the default filled in
 unfoldable pub origin_port : Scheme → List ℕ → Option ℕ
-origin_port k l = pick (is_empty l) (some (default_port k)) (next l (λ ds. pick (is_port k ds) (some (decimal ds)) none))
+origin_port k l = pick (is_empty l) (Some (default_port k)) (next l (λ ds. pick (is_port k ds) (Some (decimal ds)) None))
 
 -- an expression's port-part: "perhaps `:` and one to five digits worth at most 65,535, or `:*`"
 unfoldable pub is_port_part : List ℕ → Bool
@@ -35,5 +35,5 @@ is_port_part ds = leb (length ds) port_digits && is_number ds
 
 unfoldable pub port_part_of : List ℕ → Option PortPart
 port_part_of l =
-    pick (is_empty l) (some Default)
-    (next l (λ ds. pick (same_bytes ds (text "*")) (some Any) (pick (is_port_part ds) (some (Number (decimal ds))) none)))
+    pick (is_empty l) (Some Default)
+    (next l (λ ds. pick (same_bytes ds (text "*")) (Some Any) (pick (is_port_part ds) (Some (Number (decimal ds))) None)))

@@ -1,23 +1,21 @@
 -- The words of a text, and pieces one after the other: a part of the laws of this crate. Assumes nothing.
+use Rattle.std.specs.Prelude.{Option, Some, None}
 use mathlib.Core.Path.{◌≡◌, refl, ap, ◌∙◌, sym}
 use Prim.Native.Nat.{ℕ, ◌+◌, ◌-◌, ◌≤◌, ◌<◌, min}
 use mathlib.Core.List.{List, [], ◌∷◌}
 use mathlib.Core.Bool.{Bool, true, false, not}
 use native.Mathlib.Omega.{arith}
 use lib.ListN.{length, drop, length-drop}
+use lib.Seq.{take_all}
 use Rattle.ascii.specs.Bytes.{pick, is_white}
-use Rattle.ascii.specs.Classes.{in_class}
-use Rattle.ascii.specs.declared.Class.TheVariants.{White, Word}
 use Rattle.ascii.specs.declared.TextRange.{TextRange}
 use Rattle.ascii.specs.Reading.{head_of, is_empty, run_of, past}
-use Rattle.ascii.specs.Texts.{part_of, cut_at}
+use Rattle.ascii.specs.Texts.{part_of, part_in, cut_at}
 use Rattle.ascii.proofs.Clash.{clash}
 use Rattle.ascii.proofs.Reading.{run-from, run-part, empty-yes, empty-no}
 use Rattle.ascii.proofs.Texts.{rest_cut, cut-run, part-in}
 use Rattle.pieces.specs.Pieces.{non_empty, words}
 use Rattle.pieces.specs.Answers.{is_word_byte, word_at, low_end, high_end, IsNextWord}
-use Rattle.pieces.specs.declared.WordFound.{WordFound}
-use Rattle.pieces.specs.declared.WordFound.TheVariants as word
 
 -- the words of a text, by its first byte
 pub words-none : words [] ≡ []
@@ -75,7 +73,7 @@ past_head p (x ∷ xs) e = go (p x) refl e (λ f. past_head p xs f)
     go false t f ih = unfold pick head_of in t
 
 -- what `next_word` answers, test by test
-module _ (s : List ℕ) (at from : ℕ) (a : drop from s ≡ past (in_class White) (drop at s)) (lo : min at (length s) ≤ from) (hi : from ≤ length s) where
+module _ (s : List ℕ) (at from : ℕ) (a : drop from s ≡ past is_white (drop at s)) (lo : min at (length s) ≤ from) (hi : from ≤ length s) where
   left-of : length (past is_white (drop at s)) ≡ length s - from
   left-of = ap length (sym a) ∙ length-drop from s
 
@@ -85,13 +83,13 @@ module _ (s : List ℕ) (at from : ℕ) (a : drop from s ≡ past (in_class Whit
       let e : is_empty (past is_white (drop at s)) ≡ true = rw (← a) (empty-yes s from h) in
       words-first (drop at s) ∙ rw e
 
-  pub none-range : length s ≤ from → word.None ≡ word_at s (past is_white (drop at s))
+  pub none-range : length s ≤ from → None ≡ word_at s (past is_white (drop at s))
   unfolding word_at pick
   none-range h =
       let e : is_empty (past is_white (drop at s)) ≡ true = rw (← a) (empty-yes s from h) in
       rw e
 
-  module _ (h : from < length s) (to : ℕ) (b : drop to s ≡ past (in_class Word) (drop (from + 1) s)) (low : min (from + 1) (length s) ≤ to) (high : to ≤ length s) where
+  module _ (h : from < length s) (to : ℕ) (b : drop to s ≡ past is_word_byte (drop (from + 1) s)) (low : min (from + 1) (length s) ≤ to) (high : to ≤ length s) where
     not-empty : is_empty (past is_white (drop at s)) ≡ false
     not-empty = rw (← a) (empty-no s from h)
 
@@ -117,11 +115,11 @@ module _ (s : List ℕ) (at from : ℕ) (a : drop from s ≡ past (in_class Whit
     unfolding first_by pick
     words-is = rw (past_is, ← a, run_is)
 
-    range-is : word.Word (record { from = from; to = to }) ≡ word_at s (past is_white (drop at s))
+    range-is : Some (record { from = from; to = to }) ≡ word_at s (past is_white (drop at s))
     unfolding word_at pick
     range-is = rw (not-empty, to_is, from_is)
 
-    pub next-some : IsNextWord s at (word.Word (record { from = from; to = to }))
+    pub next-some : IsNextWord s at (Some (record { from = from; to = to }))
     next-some =
         record {
           says = words-first (drop at s) ∙ (rw not-empty words-is);
@@ -131,12 +129,27 @@ module _ (s : List ℕ) (at from : ℕ) (a : drop from s ≡ past (in_class Whit
         }
 
 -- the end of a word that is answered, as a bound
-pub low-end : (f : WordFound) (w : TextRange) → f ≡ word.Word w → low_end f ≡ w.to
+pub low-end : (f : Option TextRange) (w : TextRange) → f ≡ Some w → low_end f ≡ w.to
 low-end f w k = rw k
 
-pub high-end : (f : WordFound) (w : TextRange) → f ≡ word.Word w → high_end f ≡ w.to
+pub high-end : (f : Option TextRange) (w : TextRange) → f ≡ Some w → high_end f ≡ w.to
 high-end f w k = rw k
 
 pub ruleset low-ends = (arith, low-end)
 
 pub ruleset high-ends = (arith, high-end)
+
+-- what a walk from word to word leaves
+pub words_nil : words [] ≡ []
+unfolding first_by past is_empty pick
+words_nil = words-first []
+
+module _ (s : List ℕ) (w : TextRange) (is : words s ≡ part_in s w ∷ words (drop w.to s)) (upto : w.to ≤ length s) (rest : List ℕ) (left : rest ≡ part_of s w.to (length s)) where
+  rest_is : rest ≡ drop w.to s
+  rest_is = left ∙ (sym (part-in s w.to (length s) upto (omega arith)) ∙ take_all (length s - w.to) (drop w.to s) (omega (arith, length-drop w.to s)))
+
+  pub word-steps : (x : List ℕ) → x ≡ part_in s w → words s ≡ x ∷ words rest
+  word-steps x e = is ∙ rw (e, rest_is) refl
+
+  pub fewer_words : length (words rest) < length (words s)
+  fewer_words = rw (is, rest_is) (omega arith)

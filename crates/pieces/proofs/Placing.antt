@@ -1,9 +1,11 @@
 -- Each piece of a text has its place, so the range of its further words holds them. Assumes nothing.
+use Rattle.ascii.specs.declared.TextRange.{TextRange}
+use Rattle.std.specs.Prelude.{Option, None}
 use mathlib.Core.Path.{◌≡◌, refl, ap, ◌∙◌, sym}
 use Prim.Native.Nat.{ℕ, ◌+◌, ◌-◌, ◌≤◌, ◌<◌}
 use mathlib.Core.List.{List, [], ◌∷◌, ◌++◌, map, append_assoc}
 use mathlib.Core.Bool.{Bool, true, false}
-use mathlib.Core.Option.{some}
+use Rattle.std.specs.Prelude.{Some}
 use native.Mathlib.Omega.{arith}
 use lib.ListN.{length, drop, length-drop, length-append}
 use lib.Seq.{drop-drop, take_at, drop_at}
@@ -14,8 +16,6 @@ use Rattle.ascii.proofs.Texts.{part-in}
 use Rattle.ascii.proofs.Suffixes.{Suffix, suffix_trans, suffix-past}
 use Rattle.pieces.specs.Pieces.{words, pieces_of, is_for, further_words, last_for, entry_of}
 use Rattle.pieces.specs.Answers.{words_in, entry_in, is_word_byte, past_first, range_at, piece_entry, last_at, entry_at}
-use Rattle.pieces.specs.declared.EntryFound.{EntryFound}
-use Rattle.pieces.specs.declared.EntryFound.TheVariants as entry
 use Rattle.pieces.proofs.Cutting.{words-none, first_by, words-first}
 use Rattle.ascii.proofs.Clash.{clash}
 
@@ -87,19 +87,19 @@ further-in s at p st =
     ap words (end-part s at p (past_first p) st (unfold past_first in (suffix_trans (suffix-past is_white p) (suffix-past is_word_byte (past is_white p)))))
     ∙ sym (further-words p)
 
-piece-in : (s : List ℕ) (n at : ℕ) (p : List ℕ) (found : EntryFound) → Placed s at p → entry_in s (piece_entry n at p found) ≡ pick (is_for n (words p)) (some (further_words (words p))) (entry_in s found)
+piece-in : (s : List ℕ) (n at : ℕ) (p : List ℕ) (found : Option TextRange) → Placed s at p → entry_in s (piece_entry n at p found) ≡ pick (is_for n (words p)) (Some (further_words (words p))) (entry_in s found)
 unfolding piece_entry
 piece-in s n at p found st = go (is_for n (words p))
   where
-    go : (b : Bool) → entry_in s (pick b (entry.Words (range_at at p)) found) ≡ pick b (some (further_words (words p))) (entry_in s found)
-    go true = unfold pick in (ap some (further-in s at p st))
+    go : (b : Bool) → entry_in s (pick b (Some (range_at at p)) found) ≡ pick b (Some (further_words (words p))) (entry_in s found)
+    go true = unfold pick in (ap Some (further-in s at p st))
     go false = unfold pick in refl
 
-pieces-in : (s : List ℕ) (n at : ℕ) (ps : List (List ℕ)) (found : EntryFound) → AllPlaced s at ps → entry_in s (last_at n at ps found) ≡ last_for n (map words ps) (entry_in s found)
+pieces-in : (s : List ℕ) (n at : ℕ) (ps : List (List ℕ)) (found : Option TextRange) → AllPlaced s at ps → entry_in s (last_at n at ps found) ≡ last_for n (map words ps) (entry_in s found)
 unfolding last_at last_for
 pieces-in s n at [] found t = refl
 pieces-in s n at (p ∷ ps) found (one_more st t) = pieces-in s n (at + length p + 1) ps (piece_entry n at p found) t ∙ rw (piece-in s n at p found st)
 
 pub entry-in : (ends : ℕ → Bool) (s : List ℕ) (n : ℕ) → entry_in s (entry_at ends s n) ≡ entry_of ends s n
 unfolding entry_at entry_of pieces_of
-entry-in ends s n = pieces-in s n 0 (cut_at ends s) entry.None (all_placed ends s 0 s refl (omega arith))
+entry-in ends s n = pieces-in s n 0 (cut_at ends s) None (all_placed ends s 0 s refl (omega arith))

@@ -1,6 +1,6 @@
 -- 01, "Header and attribute": a text of pieces, each a feature and words.
 use Rattle.std.specs.Prelude.{ℕ, List, [], ◌∷◌, map, Bool, false, ◌||◌, eqb}
-use Rattle.std.proofs.Math.Option.{Option, some, none}
+use Rattle.std.specs.Prelude.{Option, Some, None}
 use Rattle.ascii.specs.Bytes.{pick, is_white}
 use Rattle.ascii.specs.Reading.{is_empty}
 use Rattle.ascii.specs.Texts.{cut_at, same_lowered}
@@ -21,12 +21,12 @@ pieces_of ends s = map words (cut_at ends s)
 
 -- "First word the feature; unknown ones are skipped": the feature that a piece is for
 unfoldable pub feature_in : List (List ℕ) → Option ℕ
-feature_in [] = none
+feature_in [] = None
 feature_in (w ∷ ws) = feature_of w
 
 abbrev pub is_the : ℕ → Option ℕ → Bool
-is_the n (some m) = eqb m n
-is_the n none = false
+is_the n (Some m) = eqb m n
+is_the n None = false
 
 unfoldable pub is_for : ℕ → List (List ℕ) → Bool
 is_for n ws = is_the n (feature_in ws)
@@ -39,11 +39,11 @@ further_words (w ∷ ws) = ws
 -- "the last piece for a feature stands": the further words of the last of several pieces that is for it, or what stood before
 unfoldable pub last_for : ℕ → List (List (List ℕ)) → Option (List (List ℕ)) → Option (List (List ℕ))
 last_for n [] found = found
-last_for n (ws ∷ rest) found = last_for n rest (pick (is_for n ws) (some (further_words ws)) found)
+last_for n (ws ∷ rest) found = last_for n rest (pick (is_for n ws) (Some (further_words ws)) found)
 
 -- the entry of a feature in a text: the words after its name
 unfoldable pub entry_of : (ℕ → Bool) → List ℕ → ℕ → Option (List (List ℕ))
-entry_of ends s n = last_for n (pieces_of ends s) none
+entry_of ends s n = last_for n (pieces_of ends s) None
 
 -- whether a keyword is among words, "case ignored"
 unfoldable pub has_keyword : List ℕ → List (List ℕ) → Bool

@@ -16,6 +16,7 @@ pub fn read_full<R: Read>(input: &mut R, run: &mut [u8]) -> io::Result<usize>
     ensures err { OnErr result ((n : ℕ) × Consumes (R.remaining input.old) (R.remaining input.new) (take n run.new)) }
 {
     let mut n: usize = 0;
+    // a loop over `read`: the library's `read_exact` says nothing of the bytes before a failure, and `read_to_end` allocates
     while n < run.len() {
         let k = input.read(&mut run[n..])?;
         if k == 0 {

@@ -1,4 +1,7 @@
 -- The texts of answers, arm by arm, as the code puts them. Assumes nothing.
+use Rattle.decisions.specs.declared.Decision.TheVariants as verdict
+use Rattle.decisions.specs.declared.Decision.{Decision}
+use Rattle.std.specs.Prelude.{Result, Ok, Err}
 use mathlib.Core.Path.{◌≡◌, refl, sym}
 use Prim.Native.Nat.{ℕ, ◌+◌, ◌-◌, ◌^◌, ◌≤◌, ◌<◌}
 use mathlib.Core.Bool.{Bool, true, false}
@@ -18,19 +21,7 @@ use Rattle.writing.specs.Writing.{Puts}
 use Rattle.writing.proofs.Laws.{puts-on, puts-ended}
 use Rattle.document_model.specs.Model.{loaded, removed, features}
 use Rattle.documents.specs.Answers.{question_in, features_in, load_in, unload_in, listing_in}
-use Rattle.documents.specs.declared.QuestionAnswer.{QuestionAnswer}
-use Rattle.documents.specs.declared.QuestionAnswer.TheVariants as question
-use Rattle.documents.specs.declared.FeaturesAnswer.{FeaturesAnswer}
-use Rattle.documents.specs.declared.FeaturesAnswer.TheVariants as mask
 use Rattle.documents.specs.declared.LoadedDocument.{LoadedDocument}
-use Rattle.documents.specs.declared.LoadAnswer.{LoadAnswer}
-use Rattle.documents.specs.declared.LoadAnswer.TheVariants as load
-use Rattle.documents.specs.declared.UnloadAnswer.{UnloadAnswer}
-use Rattle.documents.specs.declared.UnloadAnswer.TheVariants as unload
-use Rattle.documents.specs.declared.ListingAnswer.{ListingAnswer}
-use Rattle.documents.specs.declared.ListingAnswer.TheVariants as listing
-use Rattle.tidying.specs.declared.TidyAnswer.{TidyAnswer}
-use Rattle.tidying.specs.declared.TidyAnswer.TheVariants as tidy
 use Rattle.replay_answers.specs.Texts.{refused_text, malformed_mark, decision_text, serials_text, beneath_text, answer_text, tidy_text, Given}
 use Rattle.replay_answers.specs.Promises.{Says, SaysOf, Numbers}
 use Rattle.replay_answers.proofs.Laws.{refusal-small, refused-short, answer-short, beneath-short, tidy-short}
@@ -44,52 +35,52 @@ module _ (l m : List ℕ) (at r n : ℕ) where
   unfolding refused_text
   refused_says x e p = record { puts = rw e at p.puts; short = refused-short (refusal_number x) (refusal-small x) }
 
-  pub unload-removed : (a : UnloadAnswer) → a ≡ unload.Removed n → Numbers l at (text "unloaded ") n m r → Says l at (answer_text (unload_in a)) m r
+  pub unload-removed : (a : Result ℕ Refusal) → a ≡ Ok n → Numbers l at (text "unloaded ") n m r → Says l at (answer_text (unload_in a)) m r
   unfolding answer_text Given
   unload-removed a e p = rw e (record { puts = p.puts; short = answer-short (removed n) p.small })
 
-  pub features-says : (a : FeaturesAnswer) → a ≡ mask.Features n → Numbers l at (text "features ") n m r → Says l at (answer_text (features_in a)) m r
+  pub features-says : (a : Result ℕ Refusal) → a ≡ Ok n → Numbers l at (text "features ") n m r → Says l at (answer_text (features_in a)) m r
   unfolding answer_text Given
   features-says a e p = rw e (record { puts = p.puts; short = answer-short (features n) p.small })
 
 -- a refusal, whatever was called
 module _ (l m : List ℕ) (at r : ℕ) (x : Refusal) (p : Says l at (refused_text (refusal_number x)) m r) where
-  pub load-refused : (a : LoadAnswer) → a ≡ load.Refused x → Says l at (answer_text (load_in a)) m r
+  pub load-refused : (a : Result LoadedDocument Refusal) → a ≡ Err x → Says l at (answer_text (load_in a)) m r
   unfolding answer_text
   load-refused a e = rw e p
 
-  pub unload-refused : (a : UnloadAnswer) → a ≡ unload.Refused x → Says l at (answer_text (unload_in a)) m r
+  pub unload-refused : (a : Result ℕ Refusal) → a ≡ Err x → Says l at (answer_text (unload_in a)) m r
   unfolding answer_text
   unload-refused a e = rw e p
 
-  pub question-refused : (a : QuestionAnswer) → a ≡ question.Refused x → Says l at (answer_text (question_in a)) m r
+  pub question-refused : (a : Result Decision Refusal) → a ≡ Err x → Says l at (answer_text (question_in a)) m r
   unfolding answer_text
   question-refused a e = rw e p
 
-  pub features-refused : (a : FeaturesAnswer) → a ≡ mask.Refused x → Says l at (answer_text (features_in a)) m r
+  pub features-refused : (a : Result ℕ Refusal) → a ≡ Err x → Says l at (answer_text (features_in a)) m r
   unfolding answer_text
   features-refused a e = rw e p
 
-  pub listing-refused : (a : ListingAnswer) (run : List ℕ) → a ≡ listing.Refused x → SaysOf document_limit run l at (answer_text (listing_in a run)) m r
+  pub listing-refused : (a : Result ℕ Refusal) (run : List ℕ) → a ≡ Err x → SaysOf document_limit run l at (answer_text (listing_in a run)) m r
   unfolding answer_text
   listing-refused a run e = rw e (record { puts = p.puts; short = λ h. p.short })
 
-  pub tidy-refused : (a : TidyAnswer) (run : List ℕ) → a ≡ tidy.Refused x → SaysOf text_bytes run l at (tidy_text a run) m r
+  pub tidy-refused : (a : Result ℕ Refusal) (run : List ℕ) → a ≡ Err x → SaysOf text_bytes run l at (tidy_text a run) m r
   unfolding tidy_text
   tidy-refused a run e = rw e (record { puts = p.puts; short = λ h. p.short })
 
 -- a question
-module _ (l m : List ℕ) (at r : ℕ) (a : QuestionAnswer) where
-  pub question-enabled : a ≡ question.Enabled → Puts l at (text "Enabled") m r → Says l at (answer_text (question_in a)) m r
+module _ (l m : List ℕ) (at r : ℕ) (a : Result Decision Refusal) where
+  pub question-enabled : a ≡ Ok verdict.Enabled → Puts l at (text "Enabled") m r → Says l at (answer_text (question_in a)) m r
   unfolding answer_text decision_text
   question-enabled e p = rw e (record { puts = p; short = omega arith })
 
-  pub question-disabled : a ≡ question.Disabled → Puts l at (text "Disabled") m r → Says l at (answer_text (question_in a)) m r
+  pub question-disabled : a ≡ Ok verdict.Disabled → Puts l at (text "Disabled") m r → Says l at (answer_text (question_in a)) m r
   unfolding answer_text decision_text
   question-disabled e p = rw e (record { puts = p; short = omega arith })
 
 -- a load
-module _ (l k m : List ℕ) (at o r : ℕ) (a : LoadAnswer) (d : LoadedDocument) (e : a ≡ load.Loaded d) (p : Numbers l at (text "loaded ") d.serial k o) where
+module _ (l k m : List ℕ) (at o r : ℕ) (a : Result LoadedDocument Refusal) (d : LoadedDocument) (e : a ≡ Ok d) (p : Numbers l at (text "loaded ") d.serial k o) where
   pub load-good : d.malformed ≡ false → Says l at (answer_text (load_in a)) k o
   unfolding answer_text malformed_mark Given
   load-good f = rw (e, f) (record { puts = rw (append-nil (decimal_text d.serial)) p.puts; short = answer-short (loaded d.serial false) p.small })
@@ -126,7 +117,7 @@ module _ (l m : List ℕ) (at o : ℕ) (ns : List ℕ) (i : ℕ) where
       record { puts = puts-on z l from at (text "beneath " ++ decimal_text n) p.puts m (serials_text ns) o (rw (take_all i ns h) at q); short = λ g. beneath-short n ns p.small g each }
 
 -- a listing
-module _ (l m : List ℕ) (at r n : ℕ) (a : ListingAnswer) (e : a ≡ listing.Count n) (run : List ℕ) where
+module _ (l m : List ℕ) (at r n : ℕ) (a : Result ℕ Refusal) (e : a ≡ Ok n) (run : List ℕ) where
   pub listing-whole : length run ≤ n → SaysOf document_limit run l at (beneath_text n run) m r → SaysOf document_limit run l at (answer_text (listing_in a run)) m r
   unfolding answer_text
   listing-whole h p = rw (e, take_all n run h) p
@@ -136,10 +127,10 @@ module _ (l m : List ℕ) (at r n : ℕ) (a : ListingAnswer) (e : a ≡ listing.
   listing-front p = rw e (record { puts = p.puts; short = λ h. p.short (omega (arith, length-take n run)) })
 
 -- a tidied form
-module _ (l m k : List ℕ) (at o r n : ℕ) (a : TidyAnswer) (e : a ≡ tidy.Length n) (run : List ℕ) (p : Puts l at (text "tidied ") k o) where
+module _ (l m k : List ℕ) (at o r n : ℕ) (a : Result ℕ Refusal) (e : a ≡ Ok n) (run : List ℕ) (p : Puts l at (text "tidied ") k o) where
   pub tidy-front : Puts k o (take n run) m r → SaysOf text_bytes run l at (tidy_text a run) m r
   unfolding tidy_text
-  tidy-front q = rw e (record { puts = puts-on l k at o (text "tidied ") p m (take n run) r q; short = tidy-short (tidy.Length n) run })
+  tidy-front q = rw e (record { puts = puts-on l k at o (text "tidied ") p m (take n run) r q; short = tidy-short (Ok n) run })
 
   pub tidy-whole : length run ≤ n → Puts k o run m r → SaysOf text_bytes run l at (tidy_text a run) m r
   tidy-whole h q = tidy-front (rw (take_all n run h) q)

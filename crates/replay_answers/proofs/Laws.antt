@@ -1,4 +1,5 @@
 -- The laws of answers' texts, for the crates above: none is longer than the longest. Assumes nothing.
+use Rattle.std.specs.Prelude.{Result, Ok, Err}
 use mathlib.Core.Path.{◌≡◌, refl}
 use Prim.Native.Nat.{ℕ, zero, suc, ◌+◌, ◌*◌, ◌^◌, ◌≤◌, ◌<◌}
 use mathlib.Core.Bool.{true, false}
@@ -17,8 +18,6 @@ use Rattle.ascii.proofs.Decimals.{decimal-short}
 use Rattle.writing.proofs.Laws.{puts_whole, puts-after}
 use Rattle.decisions.specs.Decisions.Decision.{disabled, enabled}
 use Rattle.document_model.specs.Model.{Answer, refused, loaded, removed, decision, features, serials}
-use Rattle.tidying.specs.declared.TidyAnswer.{TidyAnswer}
-use Rattle.tidying.specs.declared.TidyAnswer.TheVariants as tidy
 use Rattle.replay_answers.specs.Texts.{refused_text, malformed_mark, decision_text, serials_text, beneath_text, answer_text, tidied_text, tidy_text, answer_bytes, Given}
 use Rattle.replay_answers.specs.Promises.{Says, SaysOf}
 
@@ -66,10 +65,10 @@ answer-short (serials n run) g =
 pub tidied-short : (t : List ℕ) → length t ≤ text_bytes → length (tidied_text t) ≤ answer_bytes
 tidied-short t h = omega arith
 
-pub tidy-short : (a : TidyAnswer) (run : List ℕ) → length run ≤ text_bytes → length (tidy_text a run) ≤ answer_bytes
+pub tidy-short : (a : Result ℕ Refusal) (run : List ℕ) → length run ≤ text_bytes → length (tidy_text a run) ≤ answer_bytes
 unfolding tidy_text
-tidy-short (tidy.Length n) run h = omega (arith, length-take n run)
-tidy-short (tidy.Refused n) run h = refused-short (refusal_number n) (refusal-small n)
+tidy-short (Ok n) run h = omega (arith, length-take n run)
+tidy-short (Err n) run h = refused-short (refusal_number n) (refusal-small n)
 
 -- an answer that shows a lent run within its limit
 pub says_of : (limit : ℕ) (run l m : List ℕ) (at r : ℕ) (t : List ℕ) → SaysOf limit run l at t m r → length run ≤ limit → Says l at t m r
@@ -91,10 +90,10 @@ pub listing-text : (n : ℕ) (run : List ℕ) → answer_text (serials n run) �
 unfolding answer_text
 listing-text n run = refl
 
-pub tidied-text : (n : ℕ) (run : List ℕ) → tidy_text (tidy.Length n) run ≡ tidied_text (take n run)
+pub tidied-text : (n : ℕ) (run : List ℕ) → tidy_text (Ok n) run ≡ tidied_text (take n run)
 unfolding tidy_text
 tidied-text n run = refl
 
-pub tidy-refused : (n : Refusal) (run : List ℕ) → tidy_text (tidy.Refused n) run ≡ refused_text (refusal_number n)
+pub tidy-refused : (n : Refusal) (run : List ℕ) → tidy_text (Err n) run ≡ refused_text (refusal_number n)
 unfolding tidy_text
 tidy-refused n run = refl

@@ -1,4 +1,6 @@
 -- The replay format's answers, row by row, by computation.
+use Rattle.limits.specs.declared.Refusal.{Refusal}
+use Rattle.std.specs.Prelude.{Result, Ok, Err, ℕ}
 use Prim.Native.String.{String}
 use Rattle.std.specs.Prelude.{◌≡◌, refl, Bool, true, false, List, [], ◌∷◌}
 use Rattle.ascii.specs.Literals.{text}
@@ -6,15 +8,13 @@ use Rattle.ascii.specs.Texts.{every, same_bytes}
 use Rattle.limits.specs.declared.Refusal.TheVariants.{Small}
 use Rattle.decisions.specs.Decisions.Decision.{disabled, enabled}
 use Rattle.document_model.specs.Model.{Answer, refused, loaded, removed, decision, features, serials}
-use Rattle.tidying.specs.declared.TidyAnswer.{TidyAnswer}
-use Rattle.tidying.specs.declared.TidyAnswer.TheVariants as tidy
 use Rattle.replay_answers.specs.Texts.{answer_text, tidy_text}
 use Rattle.replay_answers.specs.Computing.{computing}
 
 -- an answer and its text; an answer of tidying, the lent run and its text
 data Row : Type 0 where
   says : Answer → String → Row
-  tidies : TidyAnswer → String → String → Row
+  tidies : Result ℕ Refusal → String → String → Row
 
 abbrev right : Row → Bool
 right (says a t) = same_bytes (answer_text a) (text t)
@@ -33,9 +33,9 @@ rows =
     ∷ says (serials 2 (3 ∷ 10 ∷ 7 ∷ [])) "beneath 2 3 10"
     ∷ says (refused 1) "refused 1"
     ∷ says (refused 9) "refused 9"
-    ∷ tidies (tidy.Length 8) "camera=*....." "tidied camera=*"
-    ∷ tidies (tidy.Length 0) "....." "tidied "
-    ∷ tidies (tidy.Refused Small) "....." "refused 9"
+    ∷ tidies (Ok 8) "camera=*....." "tidied camera=*"
+    ∷ tidies (Ok 0) "....." "tidied "
+    ∷ tidies (Err Small) "....." "refused 9"
     ∷ []
 
 rows_right : every right rows ≡ true

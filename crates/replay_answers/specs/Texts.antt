@@ -1,4 +1,6 @@
 -- The replay format's second table: the text of each answer, without its line feed.
+use Rattle.limits.specs.declared.Refusal.{Refusal}
+use Rattle.std.specs.Prelude.{Result, Ok, Err}
 use Rattle.std.specs.Prelude.{ℕ, ◌+◌, ◌^◌, ◌<◌, ◌≤◌, Bool, true, false, List, [], ◌∷◌, ◌++◌, length, take, get_or}
 use Rattle.limits.specs.Limits.{text_bytes, document_limit}
 use Rattle.limits.specs.Refusals.{refusal_number}
@@ -6,8 +8,6 @@ use Rattle.ascii.specs.Literals.{text}
 use Rattle.ascii.specs.Decimals.{decimal_text}
 use Rattle.decisions.specs.Decisions.{Decision}
 use Rattle.decisions.specs.Decisions.Decision.{disabled, enabled}
-use Rattle.tidying.specs.declared.TidyAnswer.{TidyAnswer}
-use Rattle.tidying.specs.declared.TidyAnswer.TheVariants as tidy
 use Rattle.document_model.specs.Model.{Text, Answer, refused, loaded, removed, decision, features, serials}
 
 -- "`refused N`: a refusal, by its number"
@@ -47,9 +47,9 @@ abbrev pub tidied_text : Text → Text
 tidied_text t = text "tidied " ++ t
 
 -- the answer of tidying, with the lent run afterwards
-unfoldable pub tidy_text : TidyAnswer → List ℕ → Text
-tidy_text (tidy.Length n) run = tidied_text (take n run)
-tidy_text (tidy.Refused n) run = refused_text (refusal_number n)
+unfoldable pub tidy_text : Result ℕ Refusal → List ℕ → Text
+tidy_text (Ok n) run = tidied_text (take n run)
+tidy_text (Err n) run = refused_text (refusal_number n)
 
 -- "`bad line`: the line is none of the calls"
 abbrev pub bad_line_text : Text

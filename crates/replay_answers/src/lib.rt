@@ -8,9 +8,9 @@ ghost use Rattle.documents.specs.Answers.{load_in, unload_in, question_in, featu
 ghost use Rattle.replay_answers.specs.Texts.{refused_text, beneath_text, answer_text, tidy_text, bad_line_text, answer_bytes};
 ghost use Rattle.replay_answers.specs.Promises.{Numbers, Says, SaysOf};
 
-use documents::{FeaturesAnswer, ListingAnswer, LoadAnswer, QuestionAnswer, UnloadAnswer};
+use decisions::Decision;
+use documents::LoadedDocument;
 use limits::{Refusal, TEXT_BYTES};
-use tidying::TidyAnswer;
 
 // The length of the longest answer, `tidied ` and a tidied form, without its line feed.
 pub const ANSWER_BYTES: usize = 7 + TEXT_BYTES;
@@ -37,17 +37,17 @@ fn put_numbered(run: &mut [u8], at: usize, words: &[u8], n: u64) -> usize
 fn put_refused(run: &mut [u8], at: usize, n: Refusal) -> usize
     ensures { Says run.old at (refused_text (refusal_number n)) run.new result }
 {
-    put_numbered(run, at, b"refused ", limits::refusal_number(n) as u64)
+    put_numbered(run, at, b"refused ", u64::from(u32::from(n)))
 }
 
 // Puts the answer of a load.
-pub fn put_load(run: &mut [u8], at: usize, a: LoadAnswer) -> usize
+pub fn put_load(run: &mut [u8], at: usize, a: Result<LoadedDocument, Refusal>) -> usize
     ensures { Says run.old at (answer_text (load_in a)) run.new result }
 {
     match a {
-        LoadAnswer::Refused(n) => put_refused(run, at, n),
-        LoadAnswer::Loaded(d) => {
-            let o = put_numbered(run, at, b"loaded ", d.serial as u64);
+        Err(n) => put_refused(run, at, n),
+        Ok(d) => {
+            let o = put_numbered(run, at, b"loaded ", u64::from(d.serial));
             if d.malformed {
                 return writing::put(run, o, b" malformed");
             }
@@ -57,33 +57,35 @@ pub fn put_load(run: &mut [u8], at: usize, a: LoadAnswer) -> usize
 }
 
 // Puts the answer of an unload.
-pub fn put_unload(run: &mut [u8], at: usize, a: UnloadAnswer) -> usize
+pub fn put_unload(run: &mut [u8], at: usize, a: Result<usize, Refusal>) -> usize
     ensures { Says run.old at (answer_text (unload_in a)) run.new result }
 {
     match a {
-        UnloadAnswer::Refused(n) => put_refused(run, at, n),
-        UnloadAnswer::Removed(n) => put_numbered(run, at, b"unloaded ", n as u64),
+        Err(n) => put_refused(run, at, n),
+        Ok(n) => put_numbered(run, at, b"unloaded ", n as u64),
     }
 }
 
 // Puts the answer of a question.
-pub fn put_question(run: &mut [u8], at: usize, a: QuestionAnswer) -> usize
+pub fn put_question(run: &mut [u8], at: usize, a: Result<Decision, Refusal>) -> usize
     ensures { Says run.old at (answer_text (question_in a)) run.new result }
 {
     match a {
-        QuestionAnswer::Refused(n) => put_refused(run, at, n),
-        QuestionAnswer::Enabled => writing::put(run, at, b"Enabled"),
-        QuestionAnswer::Disabled => writing::put(run, at, b"Disabled"),
+        Err(refusal) => put_refused(run, at, refusal),
+        Ok(decision) => match decision {
+            Decision::Enabled => writing::put(run, at, b"Enabled"),
+            Decision::Disabled => writing::put(run, at, b"Disabled"),
+        },
     }
 }
 
 // Puts the answer of a question for the enabled features, or of a forecast.
-pub fn put_features(run: &mut [u8], at: usize, a: FeaturesAnswer) -> usize
+pub fn put_features(run: &mut [u8], at: usize, a: Result<u32, Refusal>) -> usize
     ensures { Says run.old at (answer_text (features_in a)) run.new result }
 {
     match a {
-        FeaturesAnswer::Refused(n) => put_refused(run, at, n),
-        FeaturesAnswer::Features(m) => put_numbered(run, at, b"features ", m as u64),
+        Err(n) => put_refused(run, at, n),
+        Ok(m) => put_numbered(run, at, b"features ", u64::from(m)),
     }
 }
 
@@ -92,21 +94,19 @@ fn put_serials(run: &mut [u8], at: usize, n: usize, serials: &[u32]) -> usize
     ensures { SaysOf document_limit serials.now run.old at (beneath_text n serials.now) run.new result }
 {
     let mut o = put_numbered(run, at, b"beneath ", n as u64);
-    let mut i: usize = 0;
-    while i < serials.len() {
-        o = put_numbered(run, o, b" ", serials[i] as u64);
-        i += 1;
+    for serial in serials {
+        o = put_numbered(run, o, b" ", u64::from(*serial));
     }
     o
 }
 
 // Puts the answer of a listing, whose serials are the first of a lent run.
-pub fn put_listing(run: &mut [u8], at: usize, a: ListingAnswer, serials: &[u32]) -> usize
+pub fn put_listing(run: &mut [u8], at: usize, a: Result<usize, Refusal>, serials: &[u32]) -> usize
     ensures { SaysOf document_limit serials.now run.old at (answer_text (listing_in a serials.now)) run.new result }
 {
     match a {
-        ListingAnswer::Refused(n) => put_refused(run, at, n),
-        ListingAnswer::Count(n) => {
+        Err(n) => put_refused(run, at, n),
+        Ok(n) => {
             if serials.len() <= n {
                 return put_serials(run, at, n, serials);
             }
@@ -116,12 +116,12 @@ pub fn put_listing(run: &mut [u8], at: usize, a: ListingAnswer, serials: &[u32])
 }
 
 // Puts the answer of tidying, whose form is the front of a lent run.
-pub fn put_tidied(run: &mut [u8], at: usize, a: TidyAnswer, tidied: &[u8]) -> usize
+pub fn put_tidied(run: &mut [u8], at: usize, a: Result<usize, Refusal>, tidied: &[u8]) -> usize
     ensures { SaysOf text_bytes tidied.now run.old at (tidy_text a tidied.now) run.new result }
 {
     match a {
-        TidyAnswer::Refused(n) => put_refused(run, at, n),
-        TidyAnswer::Length(n) => {
+        Err(n) => put_refused(run, at, n),
+        Ok(n) => {
             let o = writing::put(run, at, b"tidied ");
             if tidied.len() <= n {
                 return writing::put(run, o, tidied);

@@ -3,7 +3,7 @@ use mathlib.Core.Path.{◌≡◌, refl, ap, ◌∙◌, sym}
 use Prim.Native.Nat.{ℕ, ◌+◌, ◌≤◌, ◌<◌}
 use mathlib.Core.List.{List, map}
 use mathlib.Core.Bool.{Bool, true, false}
-use mathlib.Core.Option.{Option, some, none}
+use Rattle.std.specs.Prelude.{Option, Some, None}
 use native.Mathlib.Omega.{arith}
 use lib.ListN.{length, get_or, length-map, get_or-map}
 use lib.Dec.{eqb}
@@ -18,8 +18,8 @@ use Rattle.replay_lines.specs.declared.CallName.TheVariants as name
 
 -- a reading's value, changed
 unfoldable pub changed : {A : Type 0} → (A → A) → Option A → Option A
-changed f (some a) = some (f a)
-changed f none = none
+changed f (Some a) = Some (f a)
+changed f None = None
 
 abbrev pub cut_box : Sandbox → Sandbox
 cut_box b = record { stands = b.stands; attribute = cut b.attribute }
@@ -35,13 +35,13 @@ cut-nothing = refl
 -- what follows from a value that is changed, or from the same
 pass : {A B : Type 0} (f : A → A) (c : B → B) (d : B) → d ≡ c d → (o : Option A) (k l : A → B) → ((a : A) → l (f a) ≡ c (k a)) → given d (changed f o) l ≡ c (given d o k)
 unfolding given changed
-pass f c d e (some a) k l h = h a
-pass f c d e none k l h = e
+pass f c d e (Some a) k l h = h a
+pass f c d e None k l h = e
 
 same : {A B : Type 0} (c : B → B) (d : B) → d ≡ c d → (o : Option A) (k l : A → B) → ((a : A) → l a ≡ c (k a)) → given d o l ≡ c (given d o k)
 unfolding given
-same c d e (some a) k l h = h a
-same c d e none k l h = e
+same c d e (Some a) k l h = h a
+same c d e None k l h = e
 
 module _ (fs : List Said) where
   cut-at : (j : ℕ) → get_or (map cut_said fs) j nothing ≡ cut_said (get_or fs j nothing)
@@ -84,10 +84,10 @@ module _ (fs : List Said) where
   attributes-cut : (j : ℕ) → attributes_at (map cut_said fs) j ≡ changed cut_attributes (attributes_at fs j)
   unfolding attributes_at changed
   attributes-cut j =
-      by-text (changed cut_attributes) none refl j _ _ λ src.
-      by-mark (changed cut_attributes) none refl (j + 1) _ _ λ fullscreen.
-      by-text (changed cut_attributes) none refl (j + 2) _ _ λ allow.
-      by-sandbox (changed cut_attributes) none refl (j + 3) _ _ λ box. refl
+      by-text (changed cut_attributes) None refl j _ _ λ src.
+      by-mark (changed cut_attributes) None refl (j + 1) _ _ λ fullscreen.
+      by-text (changed cut_attributes) None refl (j + 2) _ _ λ allow.
+      by-sandbox (changed cut_attributes) None refl (j + 3) _ _ λ box. refl
 
   a-number : (j : ℕ) (k l : ℕ → Line) → ((n : ℕ) → l n ≡ cut_line (k n)) → or_bad (number_at (map cut_said fs) j) l ≡ cut_line (or_bad (number_at fs j) k)
   a-number = by_number cut_line bad_line refl
@@ -107,21 +107,21 @@ module _ (fs : List Said) where
       go false e = unfold pick in rw e
 
   -- the rows
-  cut-row : (r : CallName) → row_of r (map cut_said fs) ≡ cut_line (row_of r fs)
+  cut-row : (r : Option CallName) → row_of r (map cut_said fs) ≡ cut_line (row_of r fs)
   unfolding top_row frame_row unload_row ask_row enabled_row beneath_row forecast_row tidy_row
-  cut-row name.Top = of-fields 3 _ _ (a-text 1 _ _ λ o. a-text 2 _ _ λ h. refl)
-  cut-row name.Frame = of-fields 8 _ _ (a-number 1 _ _ λ c. a-text 2 _ _ λ o. some-attributes 3 _ _ λ a. a-text 7 _ _ λ h. refl)
-  cut-row name.Unload = of-fields 2 _ _ (a-number 1 _ _ λ s. refl)
-  cut-row name.Ask = of-fields 4 _ _ (a-number 1 _ _ λ s. a-number 2 _ _ λ f. a-text 3 _ _ λ o. refl)
-  cut-row name.Enabled = of-fields 2 _ _ (a-number 1 _ _ λ s. refl)
-  cut-row name.Beneath = of-fields 3 _ _ (a-number 1 _ _ λ s. a-number 2 _ _ λ r. refl)
-  cut-row name.Forecast = of-fields 6 _ _ (a-number 1 _ _ λ c. some-attributes 2 _ _ λ a. refl)
-  cut-row name.Tidy = of-fields 3 _ _ (a-number 1 _ _ λ r. a-text 2 _ _ λ h. refl)
-  cut-row name.Unknown = refl
+  cut-row (Some name.Top) = of-fields 3 _ _ (a-text 1 _ _ λ o. a-text 2 _ _ λ h. refl)
+  cut-row (Some name.Frame) = of-fields 8 _ _ (a-number 1 _ _ λ c. a-text 2 _ _ λ o. some-attributes 3 _ _ λ a. a-text 7 _ _ λ h. refl)
+  cut-row (Some name.Unload) = of-fields 2 _ _ (a-number 1 _ _ λ s. refl)
+  cut-row (Some name.Ask) = of-fields 4 _ _ (a-number 1 _ _ λ s. a-number 2 _ _ λ f. a-text 3 _ _ λ o. refl)
+  cut-row (Some name.Enabled) = of-fields 2 _ _ (a-number 1 _ _ λ s. refl)
+  cut-row (Some name.Beneath) = of-fields 3 _ _ (a-number 1 _ _ λ s. a-number 2 _ _ λ r. refl)
+  cut-row (Some name.Forecast) = of-fields 6 _ _ (a-number 1 _ _ λ c. some-attributes 2 _ _ λ a. refl)
+  cut-row (Some name.Tidy) = of-fields 3 _ _ (a-number 1 _ _ λ r. a-text 2 _ _ λ h. refl)
+  cut-row None = refl
 
   pub cut-call : call_of (map cut_said fs) ≡ cut_line (call_of fs)
   unfolding call_of
-  cut-call = ap (λ (r : CallName). row_of r (map cut_said fs)) (name-same 0) ∙ cut-row (get_or fs 0 nothing).name
+  cut-call = ap (λ (r : Option CallName). row_of r (map cut_said fs)) (name-same 0) ∙ cut-row (get_or fs 0 nothing).name
 
   -- no row has so many fields
   module _ (h : field_limit < length fs) where
@@ -129,17 +129,17 @@ module _ (fs : List Said) where
     unfolding of_fields pick
     too-many n l g = rw (ne_eqb (length fs) n (λ e. absurd (omega arith)))
 
-    bad-row : (r : CallName) → row_of r fs ≡ bad_line
+    bad-row : (r : Option CallName) → row_of r fs ≡ bad_line
     unfolding top_row frame_row unload_row ask_row enabled_row beneath_row forecast_row tidy_row
-    bad-row name.Top = too-many 3 _ (omega arith)
-    bad-row name.Frame = too-many 8 _ (omega arith)
-    bad-row name.Unload = too-many 2 _ (omega arith)
-    bad-row name.Ask = too-many 4 _ (omega arith)
-    bad-row name.Enabled = too-many 2 _ (omega arith)
-    bad-row name.Beneath = too-many 3 _ (omega arith)
-    bad-row name.Forecast = too-many 6 _ (omega arith)
-    bad-row name.Tidy = too-many 3 _ (omega arith)
-    bad-row name.Unknown = refl
+    bad-row (Some name.Top) = too-many 3 _ (omega arith)
+    bad-row (Some name.Frame) = too-many 8 _ (omega arith)
+    bad-row (Some name.Unload) = too-many 2 _ (omega arith)
+    bad-row (Some name.Ask) = too-many 4 _ (omega arith)
+    bad-row (Some name.Enabled) = too-many 2 _ (omega arith)
+    bad-row (Some name.Beneath) = too-many 3 _ (omega arith)
+    bad-row (Some name.Forecast) = too-many 6 _ (omega arith)
+    bad-row (Some name.Tidy) = too-many 3 _ (omega arith)
+    bad-row None = refl
 
     pub many-bad : call_of fs ≡ bad_line
     unfolding call_of

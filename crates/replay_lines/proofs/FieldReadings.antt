@@ -3,7 +3,8 @@ use mathlib.Core.Path.{◌≡◌, refl, ap, ◌∙◌, sym}
 use Prim.Native.Nat.{ℕ, suc, ◌+◌, ◌-◌, ◌*◌, ◌≤◌, ◌<◌, min}
 use mathlib.Core.List.{List, [], ◌∷◌}
 use mathlib.Core.Bool.{Bool, true, false, not, ◌&&◌}
-use mathlib.Core.Option.{Option, some, none}
+use Rattle.std.specs.Prelude.{Option, Some, None, option_and_then, option_copied}
+use Rattle.std.proofs.Common.{Bor, subst}
 use native.Mathlib.Omega.{arith}
 use lib.ListN.{length, take, drop, get_or, length-drop}
 use lib.Seq.{take_all, take-nil, drop-drop}
@@ -14,66 +15,32 @@ use Rattle.ascii.specs.Reading.{head_of}
 use Rattle.ascii.specs.Places.{IsByte}
 use Rattle.ascii.specs.Texts.{part_of, same_bytes}
 use Rattle.ascii.proofs.Texts.{part-in}
-use Rattle.replay_lines.specs.Format.{Said, nothing, name_of, number_of, mark_of, number_at, mark_at, text_at, sandbox_at}
+use Rattle.replay_lines.specs.Format.{Said, nothing, text_at, sandbox_at}
 use Rattle.replay_lines.specs.Reading.{field_limit, field_bytes, line_bytes, kept_text, is_whole, kept_sandbox, kept_says}
-use Rattle.replay_lines.specs.Answers.{slot_of, kept_in, field_in, said_in, literal_as, IsFieldAt}
-use Rattle.replay_lines.specs.declared.CallName.{CallName}
-use Rattle.replay_lines.specs.declared.CallName.TheVariants as name
+use Rattle.replay_lines.specs.Answers.{slot_of, kept_in, field_in, said_in, literal_as, IsFieldAt, IsLiteral}
 use Rattle.replay_lines.specs.declared.FieldState.{FieldState}
-use Rattle.replay_lines.specs.declared.Fields.{Fields}
 use Rattle.replay_lines.proofs.Slots.{take-least, kept-long, kept-part}
 
 -- a field that has no `%`, or has one
-module _ (run : List ℕ) (fs : Fields) (j : ℕ) (f : FieldState) (is : IsFieldAt fs j f) (w : Bool) (u : w ≡ literal_as f) where
-  module _ (e : w ≡ true) (t : List ℕ) (k : t ≡ kept_in run j f.kept) where
-    literal : literal_as f ≡ true
-    literal = sym u ∙ e
+module _ (run : List ℕ) (fs : List FieldState) (j : ℕ) (f : FieldState) (is : IsFieldAt fs j f) (w : Bool) (u : w ≡ literal_as f) where
+  literal-as : (t : Option (List ℕ)) → IsLiteral (kept_says (field_in run j f)) t → IsLiteral (get_or (said_in run fs) j nothing) t
+  literal-as t = subst (λ (x : Said). IsLiteral x t) (is.says run)
 
-    kept-name : name_of t ≡ (kept_says (field_in run j f)).name
-    unfolding kept_says field_in pick
-    kept-name = rw (literal, k)
+  pub literal-some : w ≡ true → (t : List ℕ) → t ≡ kept_in run j f.kept → IsLiteral (get_or (said_in run fs) j nothing) (Some t)
+  unfolding kept_says field_in pick
+  literal-some e t k = let v : literal_as f ≡ true = sym u ∙ e in literal-as (Some t) (record { name = rw (v, k) refl; number = rw (v, k) refl; mark = rw (v, k) refl })
 
-    kept-number : number_of t ≡ (kept_says (field_in run j f)).number
-    unfolding kept_says field_in pick
-    kept-number = rw (literal, k)
+  pub literal-none : w ≡ false → IsLiteral (get_or (said_in run fs) j nothing) None
+  unfolding kept_says field_in pick
+  literal-none e = let v : literal_as f ≡ false = sym u ∙ e in literal-as None (record { name = rw v refl; number = rw v refl; mark = rw v refl })
 
-    kept-mark : mark_of t ≡ (kept_says (field_in run j f)).mark
-    unfolding kept_says field_in pick
-    kept-mark = rw (literal, k)
+-- a reading of such a field
+module _ {A : Type 0} (read : List ℕ → Option A) (x : Option A) (r : Option (Bor (List ℕ))) (is : x ≡ option_and_then read (option_copied r)) where
+  pub unread : r ≡ None → None ≡ x
+  unread e = sym (is ∙ ap (λ (o : Option (Bor (List ℕ))). option_and_then read (option_copied o)) e)
 
-    pub name-some : (r : CallName) → r ≡ name_of t → r ≡ (get_or (said_in run fs) j nothing).name
-    name-some r g = g ∙ (kept-name ∙ ap (λ (x : Said). x.name) (is.says run))
-
-    pub number-some : (r : Option ℕ) → r ≡ number_of t → r ≡ number_at (said_in run fs) j
-    number-some r g = g ∙ (kept-number ∙ ap (λ (x : Said). x.number) (is.says run))
-
-    pub mark-some : (r : Option Bool) → r ≡ mark_of t → r ≡ mark_at (said_in run fs) j
-    mark-some r g = g ∙ (kept-mark ∙ ap (λ (x : Said). x.mark) (is.says run))
-
-  module _ (e : w ≡ false) where
-    other : literal_as f ≡ false
-    other = sym u ∙ e
-
-    no_name : name.Unknown ≡ (kept_says (field_in run j f)).name
-    unfolding kept_says field_in pick
-    no_name = rw other
-
-    no_number : none ≡ (kept_says (field_in run j f)).number
-    unfolding kept_says field_in pick
-    no_number = rw other
-
-    no-mark : none ≡ (kept_says (field_in run j f)).mark
-    unfolding kept_says field_in pick
-    no-mark = rw other
-
-    pub name-none : name.Unknown ≡ (get_or (said_in run fs) j nothing).name
-    name-none = no_name ∙ ap (λ (x : Said). x.name) (is.says run)
-
-    pub number-none : none ≡ number_at (said_in run fs) j
-    number-none = no_number ∙ ap (λ (x : Said). x.number) (is.says run)
-
-    pub mark-none : none ≡ mark_at (said_in run fs) j
-    mark-none = no-mark ∙ ap (λ (x : Said). x.mark) (is.says run)
+  pub read-as : (t : Bor (List ℕ)) (y : Option A) → r ≡ Some t → y ≡ read t.now → y ≡ x
+  read-as t y e f = f ∙ sym (is ∙ ap (λ (o : Option (Bor (List ℕ))). option_and_then read (option_copied o)) e)
 
 drop-take : (n : ℕ) (l : List ℕ) → drop 1 (take (suc n) l) ≡ take n (drop 1 l)
 drop-take n [] = sym (take-nil n)
@@ -108,24 +75,24 @@ module _ (run : List ℕ) (j : ℕ) (s : length run ≡ line_bytes) (h : j < fie
       ∙ (ap (λ (t : List ℕ). drop 1 t) (take-least n field_bytes d) ∙ sym (take_all kept_text (drop 1 (kept_in run j n)) v))))))
 
 -- a text
-module _ (run : List ℕ) (fs : Fields) (j : ℕ) (f : FieldState) (is : IsFieldAt fs j f) (w : Bool) (u : w ≡ is_whole f.place) where
-  kept-text : is_whole f.place ≡ true → some (take kept_text (kept_in run j f.kept)) ≡ (kept_says (field_in run j f)).decoded
+module _ (run : List ℕ) (fs : List FieldState) (j : ℕ) (f : FieldState) (is : IsFieldAt fs j f) (w : Bool) (u : w ≡ is_whole f.place) where
+  kept-text : is_whole f.place ≡ true → Some (take kept_text (kept_in run j f.kept)) ≡ (kept_says (field_in run j f)).decoded
   unfolding kept_says field_in pick
   kept-text x = rw x
 
-  no_text : is_whole f.place ≡ false → none ≡ (kept_says (field_in run j f)).decoded
+  no_text : is_whole f.place ≡ false → None ≡ (kept_says (field_in run j f)).decoded
   unfolding kept_says field_in pick
   no_text x = rw x
 
-  pub text-some : w ≡ true → length run ≡ line_bytes → j < field_limit → (t : List ℕ) → t ≡ kept_in run j f.kept → (n : ℕ) → n ≡ min (length t) kept_text → some (part_of run (j * field_bytes) (j * field_bytes + n)) ≡ text_at (said_in run fs) j
+  pub text-some : w ≡ true → length run ≡ line_bytes → j < field_limit → (t : List ℕ) → t ≡ kept_in run j f.kept → (n : ℕ) → n ≡ min (length t) kept_text → Some (part_of run (j * field_bytes) (j * field_bytes + n)) ≡ text_at (said_in run fs) j
   text-some e s h t k n m =
       rw (m, k, kept-front run j s h f.kept kept_text (omega arith)) (kept-text (sym u ∙ e)) ∙ ap (λ (x : Said). x.decoded) (is.says run)
 
-  pub text-none : w ≡ false → none ≡ text_at (said_in run fs) j
+  pub text-none : w ≡ false → None ≡ text_at (said_in run fs) j
   text-none e = no_text (sym u ∙ e) ∙ ap (λ (x : Said). x.decoded) (is.says run)
 
   -- SANDBOX
-  no-box : is_whole f.place && not f.opens ≡ false → none ≡ (kept_says (field_in run j f)).sandbox
+  no-box : is_whole f.place && not f.opens ≡ false → None ≡ (kept_says (field_in run j f)).sandbox
   unfolding kept_says field_in pick
   no-box x = rw x
 
@@ -133,7 +100,7 @@ module _ (run : List ℕ) (fs : Fields) (j : ℕ) (f : FieldState) (is : IsField
   unfolding kept_says field_in pick
   kept-box x t k = rw (x, k)
 
-  pub sandbox-none : not (w && not f.opens) ≡ true → none ≡ sandbox_at (said_in run fs) j
+  pub sandbox-none : not (w && not f.opens) ≡ true → None ≡ sandbox_at (said_in run fs) j
   sandbox-none e =
       let x : is_whole f.place && not f.opens ≡ false = rw u at (not-true (w && not f.opens) e) in
       no-box x ∙ ap (λ (x : Said). x.sandbox) (is.says run)
@@ -144,27 +111,27 @@ module _ (run : List ℕ) (fs : Fields) (j : ℕ) (f : FieldState) (is : IsField
         let y : is_whole f.place && not f.opens ≡ true = rw u at (not-false (w && not f.opens) e) in
         kept-box y t k ∙ ap (λ (x : Said). x.sandbox) (is.says run)
 
-    box-text : head_of t ≡ 49 → some (record { stands = true; attribute = take kept_text (drop 1 t) }) ≡ kept_sandbox t
+    box-text : head_of t ≡ 49 → Some (record { stands = true; attribute = take kept_text (drop 1 t) }) ≡ kept_sandbox t
     unfolding kept_sandbox pick
     box-text y = rw (eq-eqb (head_of t) 49 y)
 
-    pub sandbox-text : length run ≡ line_bytes → j < field_limit → x ≡ 49 → some (record { stands = true; attribute = part_of run (j * field_bytes + 1) (j * field_bytes + length t) }) ≡ sandbox_at (said_in run fs) j
+    pub sandbox-text : length run ≡ line_bytes → j < field_limit → x ≡ 49 → Some (record { stands = true; attribute = part_of run (j * field_bytes + 1) (j * field_bytes + length t) }) ≡ sandbox_at (said_in run fs) j
     sandbox-text s h q =
         let y : head_of t ≡ 49 = sym i.is ∙ q in
         let g : 1 ≤ length t = omega (arith, i.there) in
         rw (k, kept-rest run j s h f.kept (rw k at g), ← k) (box-text y) ∙ box
 
     module _ (q : x ≡ 49 → ⊥) (z : Bool) (v : z ≡ same_bytes t (text "0")) where
-      box-absent : same_bytes t (text "0") ≡ true → some (record { stands = false; attribute = [] }) ≡ kept_sandbox t
+      box-absent : same_bytes t (text "0") ≡ true → Some (record { stands = false; attribute = [] }) ≡ kept_sandbox t
       unfolding kept_sandbox pick
       box-absent b = rw (ne_eqb (head_of t) 49 (λ y. q (i.is ∙ y)), b)
 
-      box-none : same_bytes t (text "0") ≡ false → none ≡ kept_sandbox t
+      box-none : same_bytes t (text "0") ≡ false → None ≡ kept_sandbox t
       unfolding kept_sandbox pick
       box-none b = rw (ne_eqb (head_of t) 49 (λ y. q (i.is ∙ y)), b)
 
-      pub sandbox-absent : z ≡ true → some (record { stands = false; attribute = part_of run 0 0 }) ≡ sandbox_at (said_in run fs) j
+      pub sandbox-absent : z ≡ true → Some (record { stands = false; attribute = part_of run 0 0 }) ≡ sandbox_at (said_in run fs) j
       sandbox-absent b = rw (← part-in run 0 0 (omega arith) (omega arith)) (box-absent (sym v ∙ b)) ∙ box
 
-      pub sandbox-other : z ≡ false → none ≡ sandbox_at (said_in run fs) j
+      pub sandbox-other : z ≡ false → None ≡ sandbox_at (said_in run fs) j
       sandbox-other b = box-none (sym v ∙ b) ∙ box

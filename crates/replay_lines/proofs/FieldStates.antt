@@ -5,17 +5,15 @@ use mathlib.Core.List.{List, [], ◌∷◌, map}
 use mathlib.Core.Bool.{Bool, true, false, ◌||◌}
 use native.Mathlib.Omega.{arith}
 use native.Mathlib.Nat.{le_of_suc-le-suc, not-suc-le-zero}
-use lib.ListN.{length, take, get_or, length-take, length-map, get_or-eq_default}
-use lib.Seq.{get_or-take}
-use lib.Dec.{eqb}
-use borrow.Author.Tests.{eq-eqb, ne_eqb}
+use lib.ListN.{length, get_or, length-map, get_or-eq_default}
+use lib.Dec.{eqb, leb}
+use borrow.Author.Tests.{eq-eqb, ne_eqb, leb-true, leb-false}
 use Rattle.ascii.specs.Bytes.{pick}
 use Rattle.ascii.specs.Reading.{is_empty}
 use Rattle.replay_lines.specs.Format.{nothing, is_hex, hex_byte}
 use Rattle.replay_lines.specs.Reading.{field_limit, field_bytes, line_bytes, field_byte, kept_says}
-use Rattle.replay_lines.specs.Answers.{kept_in, field_in, fields_from, said_in, Elsewhere, IsKept, IsByteRead, IsFieldAt, fresh_field, moved_as}
+use Rattle.replay_lines.specs.Answers.{kept_in, field_in, fields_from, said_in, Elsewhere, IsKept, IsByteRead, IsFieldAt, broken_field, moved_as}
 use Rattle.replay_lines.specs.declared.FieldState.{FieldState}
-use Rattle.replay_lines.specs.declared.Fields.{Fields}
 use Rattle.replay_lines.specs.declared.Place.TheVariants.{Plain, Percent, Digit, Broken}
 use Rattle.replay_lines.proofs.Slots.{kept-long}
 
@@ -77,33 +75,23 @@ unfolding fields_from
 fields-long run k [] = refl
 fields-long run k (f ∷ fs) = ap suc (fields-long run (suc k) fs)
 
-said-from : (run : List ℕ) (k : ℕ) (fs : List FieldState) (j : ℕ) → j < length fs → get_or (map kept_says (fields_from run k fs)) j nothing ≡ kept_says (field_in run (k + j) (get_or fs j fresh_field))
+said-from : (run : List ℕ) (k : ℕ) (fs : List FieldState) (j : ℕ) → j < length fs → get_or (map kept_says (fields_from run k fs)) j nothing ≡ kept_says (field_in run (k + j) (get_or fs j broken_field))
 unfolding fields_from
 said-from run k [] j h = absurd (not-suc-le-zero h)
 said-from run k (f ∷ fs) zero h = let z : k + 0 ≡ k = omega arith in rw z
 said-from run k (f ∷ fs) (suc j) h = let z : k + suc j ≡ suc k + j = omega arith in rw z (said-from run (suc k) fs j (le_of_suc-le-suc h))
 
-broken-nothing : (run : List ℕ) (j : ℕ) → kept_says (field_in run j (record { kept = 0; escaped = false; opens = false; place = Broken })) ≡ nothing
+broken-nothing : (run : List ℕ) (j : ℕ) → kept_says (field_in run j broken_field) ≡ nothing
 unfolding kept_says field_in pick
 broken-nothing run j = refl
 
-module _ (fs : Fields) (j : ℕ) (s : length fs.list ≡ field_limit) (h : j < field_limit) where
-  pub field-there : j < fs.count → IsFieldAt fs j (get_or fs.list j fresh_field)
-  unfolding said_in
-  field-there g =
-      record {
-        says = λ run.
-            let l : j < length (take fs.count fs.list) = omega (arith, length-take fs.count fs.list) in
-            let z : 0 + j ≡ j = omega arith in
-            sym (rw (z, get_or-take fs.count fs.list j fresh_field g) at (said-from run 0 (take fs.count fs.list) j l));
-      }
-
-  pub field_past : fs.count ≤ j → IsFieldAt fs j (record { kept = 0; escaped = false; opens = false; place = Broken })
-  unfolding said_in
-  field_past g =
-      record {
-        says = λ run.
-            let l : length (map kept_says (fields_from run 0 (take fs.count fs.list))) ≤ j =
-            omega (arith, length-map (fields_from run 0 (take fs.count fs.list)) kept_says, fields-long run 0 (take fs.count fs.list), length-take fs.count fs.list) in
-            broken-nothing run j ∙ sym (get_or-eq_default (map kept_says (fields_from run 0 (take fs.count fs.list))) nothing l);
-      }
+pub field-said : (fs : List FieldState) (j : ℕ) (r : FieldState) → r ≡ get_or fs j broken_field → IsFieldAt fs j r
+unfolding said_in
+field-said fs j r e = record { says = λ run. rw e (go run (leb (suc j) (length fs)) refl) }
+  where
+    go : (run : List ℕ) (t : Bool) → leb (suc j) (length fs) ≡ t → kept_says (field_in run j (get_or fs j broken_field)) ≡ get_or (map kept_says (fields_from run 0 fs)) j nothing
+    go run true u = let z : 0 + j ≡ j = omega arith in sym (rw z at (said-from run 0 fs j (leb-true (suc j) (length fs) u)))
+    go run false u =
+        let l : length fs ≤ j = omega (arith, leb-false (suc j) (length fs) u) in
+        let m : length (map kept_says (fields_from run 0 fs)) ≤ j = omega (arith, length-map (fields_from run 0 fs) kept_says, fields-long run 0 fs) in
+        rw (get_or-eq_default fs broken_field l) (broken-nothing run j ∙ sym (get_or-eq_default (map kept_says (fields_from run 0 fs)) nothing m))

@@ -3,7 +3,7 @@ use mathlib.Core.Path.{◌≡◌, refl, ap, ◌∙◌, sym}
 use Prim.Native.Nat.{ℕ, zero, suc, ◌≤◌, ◌<◌}
 use mathlib.Core.List.{[], ◌∷◌, ◌++◌, append-nil}
 use mathlib.Core.Bool.{Bool, true, false, not, ◌&&◌, ◌||◌}
-use mathlib.Core.Option.{Option, some, none}
+use Rattle.std.specs.Prelude.{Option, Some, None}
 use native.Mathlib.Omega.{arith}
 use native.Mathlib.Nat.{le_of_suc-le-suc}
 use lib.ListN.{length, take, length-append, length-take}
@@ -21,7 +21,6 @@ use Rattle.ascii.specs.Texts.{every, same_by, same_bytes}
 use Rattle.replay_lines.specs.Format.{Text, Said, Sandbox, nothing, is_percent, is_hex, hex_byte, with_byte, decoded, undone, is_number, number_of, mark_of, sandboxed, sandbox_of, name_of, says}
 use Rattle.replay_lines.specs.Reading.{Field, field_bytes, kept_text, new_field, keep_byte, field_byte, is_whole, kept_sandbox, kept_says, cut}
 use Rattle.replay_lines.specs.declared.CallName.{CallName}
-use Rattle.replay_lines.specs.declared.CallName.TheVariants as name
 use Rattle.replay_lines.specs.declared.Place.{Place}
 use Rattle.replay_lines.specs.declared.Place.TheVariants.{Plain, Percent, Digit, Broken}
 use Rattle.replay_lines.proofs.Numbers.{number-long}
@@ -87,16 +86,16 @@ broken-stays k e o (x ∷ xs) = broken-stays k e o xs
 
 -- what is read of a text, by what the text decodes to
 unfoldable said_by : Text → Bool → Bool → Text → Option Text → Said
-said_by k e o u (some d) = kept_says (field_of (take field_bytes (k ++ d)) (e || has_percent u) (o || (is_empty k && opens_percent u)) Plain)
-said_by k e o u none = nothing
+said_by k e o u (Some d) = kept_says (field_of (take field_bytes (k ++ d)) (e || has_percent u) (o || (is_empty k && opens_percent u)) Plain)
+said_by k e o u None = nothing
 
 -- a byte that stands for itself
 plain_byte : (k : Text) (e o : Bool) (x : ℕ) (xs : Text) (w : Option Text) → is_percent x ≡ false → said_by (keep_byte k x) e o xs w ≡ said_by k e o (x ∷ xs) (with_byte x w)
 unfolding said_by with_byte has_percent opens_percent
-plain_byte k e o x xs (some d) q =
+plain_byte k e o x xs (Some d) q =
     let z : is_empty k && false ≡ false = and-false (is_empty k) in
     rw (q, keep-take k x d, keep_some k x, z)
-plain_byte k e o x xs none q = refl
+plain_byte k e o x xs None q = refl
 
 -- `%` and two digits
 opens-same : (o z p : Bool) → (o || z) || (false && p) ≡ o || (z && true)
@@ -106,9 +105,9 @@ opens-same false false p = refl
 
 escaped-byte : (k : Text) (e o : Bool) (x a b : ℕ) (ys : Text) (w : Option Text) (v : ℕ) → is_percent x ≡ true → said_by (keep_byte k v) true (o || is_empty k) ys w ≡ said_by k e o (x ∷ a ∷ b ∷ ys) (with_byte v w)
 unfolding said_by with_byte has_percent opens_percent
-escaped-byte k e o x a b ys (some d) v q =
+escaped-byte k e o x a b ys (Some d) v q =
     rw (q, keep-take k v d, keep_some k v, opens-same o (is_empty k) (opens_percent ys), or-true e)
-escaped-byte k e o x a b ys none v q = refl
+escaped-byte k e o x a b ys None v q = refl
 
 abbrev Reads : Text → Type 0
 Reads u = (k : Text) (e o : Bool) → length k ≤ field_bytes → kept_says (read_field (field_of k e o Plain) u) ≡ said_by k e o u (decoded u)
@@ -193,7 +192,7 @@ percent-no-digits (x ∷ xs) e = go (is_percent x) refl e (λ g. percent-no-digi
     go true f g ih = let h : x ≡ 37 = eqb-true x 37 f in rw h
     go false f g ih = rw (ih g, and-false (is_digit x))
 
-percent-name : (u : Text) → has_percent u ≡ true → name_of u ≡ name.Unknown
+percent-name : (u : Text) → has_percent u ≡ true → name_of u ≡ None
 unfolding name_of has_percent pick
 percent-name u e =
     rw (
@@ -207,20 +206,20 @@ percent-name u e =
       percent-differs u (text "tidy") e refl,
     )
 
-percent-number : (u : Text) → has_percent u ≡ true → number_of u ≡ none
+percent-number : (u : Text) → has_percent u ≡ true → number_of u ≡ None
 unfolding number_of is_number pick
 percent-number u e = rw (percent-no-digits u e, and-false (not (is_empty u)))
 
-percent-mark : (u : Text) → has_percent u ≡ true → mark_of u ≡ none
+percent-mark : (u : Text) → has_percent u ≡ true → mark_of u ≡ None
 unfolding mark_of has_percent pick
 percent-mark u e = rw (percent-differs u (text "0") e refl, percent-differs u (text "1") e refl)
 
-plain-decoded : (u : Text) → has_percent u ≡ false → decoded u ≡ some u
+plain-decoded : (u : Text) → has_percent u ≡ false → decoded u ≡ Some u
 unfolding has_percent decoded with_byte pick
 plain-decoded [] e = refl
 plain-decoded (x ∷ xs) e = go (is_percent x) e (λ g. plain-decoded xs g)
   where
-    go : (t : Bool) → t || has_percent xs ≡ false → (has_percent xs ≡ false → decoded xs ≡ some xs) → pick t (undone xs) (with_byte x (decoded xs)) ≡ some (x ∷ xs)
+    go : (t : Bool) → t || has_percent xs ≡ false → (has_percent xs ≡ false → decoded xs ≡ Some xs) → pick t (undone xs) (with_byte x (decoded xs)) ≡ Some (x ∷ xs)
     go true g ih = clash cc
     go false g ih = unfold pick with_byte in rw (ih g)
 
@@ -264,15 +263,15 @@ cut-mark u = rw (same-cut field_bytes u (text "0") (omega arith), same-cut field
 
 -- a reading that takes no `%`: the same of what is kept
 module _ {A : Type 0} (f : Text → A) (no : A) (percent : (u : Text) → has_percent u ≡ true → f u ≡ no) (cuts : (u : Text) → f (take field_bytes u) ≡ f u) where
-  literal-by : (t : Bool) (u d : Text) → decoded u ≡ some d → has_percent u ≡ t → pick (not t) (f (take field_bytes d)) no ≡ f u
+  literal-by : (t : Bool) (u d : Text) → decoded u ≡ Some d → has_percent u ≡ t → pick (not t) (f (take field_bytes d)) no ≡ f u
   unfolding pick
   literal-by true u d e g = sym (percent u g)
   literal-by false u d e g = let h : d ≡ u = cc (plain-decoded u g) in rw h (cuts u)
 
-  literal-said : (u d : Text) → decoded u ≡ some d → pick (not (has_percent u)) (f (take field_bytes d)) no ≡ f u
+  literal-said : (u d : Text) → decoded u ≡ Some d → pick (not (has_percent u)) (f (take field_bytes d)) no ≡ f u
   literal-said u d e = literal-by (has_percent u) u d e refl
 
-  broken-said : (u : Text) → decoded u ≡ none → no ≡ f u
+  broken-said : (u : Text) → decoded u ≡ None → no ≡ f u
   broken-said u e = go (has_percent u) refl
     where
       go : (t : Bool) → has_percent u ≡ t → no ≡ f u
@@ -280,30 +279,30 @@ module _ {A : Type 0} (f : Text → A) (no : A) (percent : (u : Text) → has_pe
       go false g = clash (cc (plain-decoded u g))
 
 -- SANDBOX: nothing decodes to no byte but no byte
-with-some : (b : ℕ) (w : Option Text) → with_byte b w ≡ some [] → ⊥
+with-some : (b : ℕ) (w : Option Text) → with_byte b w ≡ Some [] → ⊥
 unfolding with_byte
-with-some b (some t) e = clash cc
-with-some b none e = clash cc
+with-some b (Some t) e = clash cc
+with-some b None e = clash cc
 
-undone-some : (u : Text) → undone u ≡ some [] → ⊥
+undone-some : (u : Text) → undone u ≡ Some [] → ⊥
 unfolding undone pick
 undone-some [] e = clash cc
 undone-some (a ∷ []) e = clash cc
 undone-some (a ∷ b ∷ xs) e = go (is_hex a && is_hex b) e
   where
-    go : (t : Bool) → pick t (with_byte (hex_byte a b) (decoded xs)) none ≡ some [] → ⊥
+    go : (t : Bool) → pick t (with_byte (hex_byte a b) (decoded xs)) None ≡ Some [] → ⊥
     go true f = unfold pick in with-some (hex_byte a b) (decoded xs) f
     go false f = clash cc
 
-decoded-some : (y : ℕ) (ys : Text) → decoded (y ∷ ys) ≡ some [] → ⊥
+decoded-some : (y : ℕ) (ys : Text) → decoded (y ∷ ys) ≡ Some [] → ⊥
 unfolding decoded
 decoded-some y ys e = go (is_percent y) e
   where
-    go : (t : Bool) → pick t (undone ys) (with_byte y (decoded ys)) ≡ some [] → ⊥
+    go : (t : Bool) → pick t (undone ys) (with_byte y (decoded ys)) ≡ Some [] → ⊥
     go true f = undone-some ys (unfold pick in f)
     go false f = with-some y (decoded ys) (unfold pick in f)
 
-rest-same : (n : ℕ) (xs d : Text) → decoded xs ≡ some d → same_bytes (take (suc n) d) [] ≡ same_bytes xs []
+rest-same : (n : ℕ) (xs d : Text) → decoded xs ≡ Some d → same_bytes (take (suc n) d) [] ≡ same_bytes xs []
 unfolding same_by
 rest-same n [] [] e = refl
 rest-same n [] (z ∷ zs) e = clash (unfold decoded in cc)
@@ -311,12 +310,12 @@ rest-same n (y ∷ ys) [] e = absurd (decoded-some y ys e)
 rest-same n (y ∷ ys) (z ∷ zs) e = refl
 
 -- its first byte is a `%`
-opens-none : (x : ℕ) (xs : Text) → is_percent x ≡ true → none ≡ changed cut_box (sandbox_of (x ∷ xs))
+opens-none : (x : ℕ) (xs : Text) → is_percent x ≡ true → None ≡ changed cut_box (sandbox_of (x ∷ xs))
 unfolding sandbox_of head_of same_by pick changed
 opens-none x xs e = let h : x ≡ 37 = eqb-true x 37 e in rw h
 
 -- or is not
-module _ (x : ℕ) (xs d : Text) (e : decoded xs ≡ some d) where
+module _ (x : ℕ) (xs d : Text) (e : decoded xs ≡ Some d) where
   one-said : eqb x 49 ≡ true → kept_sandbox (x ∷ take kept_text d) ≡ changed cut_box (sandbox_of (x ∷ xs))
   unfolding kept_sandbox sandbox_of sandboxed head_of pick changed
   one-said f = rw (f, e, take-take kept_text kept_text d (omega arith))
@@ -325,7 +324,7 @@ module _ (x : ℕ) (xs d : Text) (e : decoded xs ≡ some d) where
   unfolding kept_sandbox sandbox_of head_of same_by pick
   other-said f = rw (f, rest-same text_bytes xs d e) (go (pick (eqb x 48) (same_bytes xs []) false))
     where
-      go : (t : Bool) → pick t (some (record { stands = false; attribute = [] })) none ≡ changed cut_box (pick t (some (record { stands = false; attribute = [] })) none)
+      go : (t : Bool) → pick t (Some (record { stands = false; attribute = [] })) None ≡ changed cut_box (pick t (Some (record { stands = false; attribute = [] })) None)
       go true = unfold pick changed in refl
       go false = unfold pick changed in refl
 
@@ -340,90 +339,90 @@ cons-decoded : (x : ℕ) (xs : Text) → is_percent x ≡ false → decoded (x �
 unfolding decoded pick
 cons-decoded x xs e = rw e
 
-with-is : (x : ℕ) (w : Option Text) (d : Text) → with_byte x w ≡ some d → (t : Text) × (w ≡ some t) × (d ≡ x ∷ t)
+with-is : (x : ℕ) (w : Option Text) (d : Text) → with_byte x w ≡ Some d → (t : Text) × (w ≡ Some t) × (d ≡ x ∷ t)
 unfolding with_byte
-with-is x (some t) d e = (t, refl, cc)
-with-is x none d e = clash cc
+with-is x (Some t) d e = (t, refl, cc)
+with-is x None d e = clash cc
 
-with_none : (x : ℕ) (w : Option Text) → with_byte x w ≡ none → w ≡ none
+with_none : (x : ℕ) (w : Option Text) → with_byte x w ≡ None → w ≡ None
 unfolding with_byte
-with_none x (some t) e = clash cc
-with_none x none e = refl
+with_none x (Some t) e = clash cc
+with_none x None e = refl
 
-sandbox-cons : (t : Bool) (x : ℕ) (xs d : Text) → decoded (x ∷ xs) ≡ some d → is_percent x ≡ t → pick (not t) (kept_sandbox (take field_bytes d)) none ≡ changed cut_box (sandbox_of (x ∷ xs))
+sandbox-cons : (t : Bool) (x : ℕ) (xs d : Text) → decoded (x ∷ xs) ≡ Some d → is_percent x ≡ t → pick (not t) (kept_sandbox (take field_bytes d)) None ≡ changed cut_box (sandbox_of (x ∷ xs))
 unfolding pick
 sandbox-cons true x xs d e f = opens-none x xs f
 sandbox-cons false x xs d e f =
     let w = with-is x (decoded xs) d (sym (cons-decoded x xs f) ∙ e) in
     rw w.2 (first_said x xs w.0 w.1)
 
-sandbox-said : (u d : Text) → decoded u ≡ some d → pick (not (opens_percent u)) (kept_sandbox (take field_bytes d)) none ≡ changed cut_box (sandbox_of u)
+sandbox-said : (u d : Text) → decoded u ≡ Some d → pick (not (opens_percent u)) (kept_sandbox (take field_bytes d)) None ≡ changed cut_box (sandbox_of u)
 unfolding opens_percent kept_sandbox sandbox_of head_of same_by pick changed decoded
 sandbox-said [] [] e = refl
 sandbox-said [] (z ∷ zs) e = clash cc
 sandbox-said (x ∷ xs) d e = sandbox-cons (is_percent x) x xs d e refl
 
-broken-first : (t : Bool) (x : ℕ) (xs : Text) → decoded xs ≡ none → same_bytes (x ∷ xs) (text "0") ≡ false → eqb x 49 ≡ t → none ≡ changed cut_box (sandbox_of (x ∷ xs))
+broken-first : (t : Bool) (x : ℕ) (xs : Text) → decoded xs ≡ None → same_bytes (x ∷ xs) (text "0") ≡ false → eqb x 49 ≡ t → None ≡ changed cut_box (sandbox_of (x ∷ xs))
 unfolding sandbox_of sandboxed head_of pick changed
 broken-first true x xs e f g = rw (g, e)
 broken-first false x xs e f g = rw (g, f)
 
-zero-decoded : decoded (text "0") ≡ some (text "0")
+zero-decoded : decoded (text "0") ≡ Some (text "0")
 unfolding decoded with_byte pick
 zero-decoded = refl
 
-not-zero : (x : ℕ) (xs : Text) → decoded (x ∷ xs) ≡ none → (t : Bool) → same_bytes (x ∷ xs) (text "0") ≡ t → t ≡ false
+not-zero : (x : ℕ) (xs : Text) → decoded (x ∷ xs) ≡ None → (t : Bool) → same_bytes (x ∷ xs) (text "0") ≡ t → t ≡ false
 not-zero x xs e true f = let h : x ∷ xs ≡ text "0" = bytes_same (x ∷ xs) (text "0") f in clash (cc zero-decoded)
 not-zero x xs e false f = refl
 
-broken-cons : (t : Bool) (x : ℕ) (xs : Text) → decoded (x ∷ xs) ≡ none → is_percent x ≡ t → none ≡ changed cut_box (sandbox_of (x ∷ xs))
+broken-cons : (t : Bool) (x : ℕ) (xs : Text) → decoded (x ∷ xs) ≡ None → is_percent x ≡ t → None ≡ changed cut_box (sandbox_of (x ∷ xs))
 broken-cons true x xs e f = opens-none x xs f
 broken-cons false x xs e f =
     broken-first (eqb x 49) x xs (with_none x (decoded xs) (sym (cons-decoded x xs f) ∙ e)) (not-zero x xs e (same_bytes (x ∷ xs) (text "0")) refl) refl
 
-sandbox-broken : (u : Text) → decoded u ≡ none → none ≡ changed cut_box (sandbox_of u)
+sandbox-broken : (u : Text) → decoded u ≡ None → None ≡ changed cut_box (sandbox_of u)
 sandbox-broken [] e = clash (unfold decoded in cc)
 sandbox-broken (x ∷ xs) e = broken-cons (is_percent x) x xs e refl
 
-text-said : (d : Text) → some (take kept_text (take field_bytes d)) ≡ changed cut (some d)
+text-said : (d : Text) → Some (take kept_text (take field_bytes d)) ≡ changed cut (Some d)
 unfolding changed
-text-said d = ap some (take-take kept_text field_bytes d (omega arith))
+text-said d = ap Some (take-take kept_text field_bytes d (omega arith))
 
 -- two fields that say the same by each reading
-abbrev saying : CallName → Option ℕ → Option Bool → Option Sandbox → Option Text → Said
+abbrev saying : Option CallName → Option ℕ → Option Bool → Option Sandbox → Option Text → Said
 saying n m k b t = record { name = n; number = m; mark = k; sandbox = b; decoded = t }
 
-all_same : {n n' : CallName} {m m' : Option ℕ} {k k' : Option Bool} {b b' : Option Sandbox} {t t' : Option Text} → n ≡ n' → m ≡ m' → k ≡ k' → b ≡ b' → t ≡ t' → saying n m k b t ≡ saying n' m' k' b' t'
+all_same : {n n' : (Option CallName)} {m m' : Option ℕ} {k k' : Option Bool} {b b' : Option Sandbox} {t t' : Option Text} → n ≡ n' → m ≡ m' → k ≡ k' → b ≡ b' → t ≡ t' → saying n m k b t ≡ saying n' m' k' b' t'
 all_same p q r s t = λ i. saying (p i) (q i) (r i) (s i) (t i)
 
 -- what a text that decodes says, and one that doesn't
-whole_says : (u d : Text) → decoded u ≡ some d → said_by [] false false u (some d) ≡ cut_said (says u)
+whole_says : (u d : Text) → decoded u ≡ Some d → said_by [] false false u (Some d) ≡ cut_said (says u)
 unfolding said_by kept_says cut_said says is_empty pick
 whole_says u d e =
     all_same
-    (literal-said name_of name.Unknown percent-name cut-name u d e)
-    (literal-said number_of none percent-number cut-number u d e)
-    (literal-said mark_of none percent-mark cut-mark u d e)
+    (literal-said name_of None percent-name cut-name u d e)
+    (literal-said number_of None percent-number cut-number u d e)
+    (literal-said mark_of None percent-mark cut-mark u d e)
     (sandbox-said u d e)
     (text-said d ∙ ap (changed cut) (sym e))
 
-none-says : (u : Text) → decoded u ≡ none → nothing ≡ cut_said (says u)
+none-says : (u : Text) → decoded u ≡ None → nothing ≡ cut_said (says u)
 unfolding cut_said says
 none-says u e =
     all_same
-    (broken-said name_of name.Unknown percent-name cut-name u e)
-    (broken-said number_of none percent-number cut-number u e)
-    (broken-said mark_of none percent-mark cut-mark u e)
+    (broken-said name_of None percent-name cut-name u e)
+    (broken-said number_of None percent-number cut-number u e)
+    (broken-said mark_of None percent-mark cut-mark u e)
     (sandbox-broken u e)
     (no_text ∙ ap (changed cut) (sym e))
   where
-    no_text : none ≡ changed cut none
+    no_text : None ≡ changed cut None
     no_text = unfold changed in refl
 
 by-decoded : (w : Option Text) (u : Text) → decoded u ≡ w → said_by [] false false u w ≡ cut_said (says u)
 unfolding said_by
-by-decoded (some d) u e = whole_says u d e
-by-decoded none u e = none-says u e
+by-decoded (Some d) u e = whole_says u d e
+by-decoded None u e = none-says u e
 
 pub field-says : (u : Text) → kept_says (read_field new_field u) ≡ cut_said (says u)
 field-says u = reads u [] false false (omega arith) ∙ by-decoded (decoded u) u refl

@@ -1,4 +1,5 @@
 -- The laws of lines that the crates above cite: read in any pieces, a line is the call that the format says, its texts cut. Assumes nothing.
+use Rattle.std.specs.Prelude.{Option}
 use mathlib.Core.Path.{◌≡◌, refl, ap, ◌∙◌, sym}
 use Prim.Native.Nat.{ℕ, suc, ◌<◌}
 use mathlib.Core.List.{List, [], ◌∷◌, ◌++◌, map}
@@ -113,5 +114,5 @@ line-read s =
     ∙ fields-call (cut_at is_tab s) (run_of (λ b. not (is_tab b)) s) (rest_cut is_tab (past (λ b. not (is_tab b)) s)) (cut-run is_tab s)
 
 -- so is the answer of `call`, by its contract, for a state that `read` left by its own
-pub call-read : (run : List ℕ) (state : LineState) (r : LineRead) (s : Text) → reading_in run state ≡ read_on new_reading s → line_in run r ≡ line_from (reading_in run state) → line_in run r ≡ cut_line (line_of s)
+pub call-read : (run : List ℕ) (state : LineState) (r : Option LineRead) (s : Text) → reading_in run state ≡ read_on new_reading s → line_in run r ≡ line_from (reading_in run state) → line_in run r ≡ cut_line (line_of s)
 call-read run state r s e f = f ∙ (ap line_from e ∙ line-read s)

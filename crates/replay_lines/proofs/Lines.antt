@@ -1,4 +1,5 @@
 -- The state of a line beside the run: a TAB, a byte, the end. Assumes nothing.
+use Rattle.std.specs.Prelude.{Option}
 use mathlib.Core.Path.{◌≡◌, refl, ap, ◌∙◌, sym}
 use Prim.Native.Nat.{ℕ, suc, ◌+◌, ◌≤◌, ◌<◌}
 use mathlib.Core.List.{List, [], ◌∷◌, ◌++◌}
@@ -75,7 +76,7 @@ module _ (run : List ℕ) (ended : List FieldState) (n : ℕ) (f : FieldState) w
         rw (lt-ltb n field_limit h, ne_eqb b 9 d, fields-other run after n 0 (take n ended) r.others l, r.is)
 
     -- the end of the line
-    pub at-end : (R : Line) → R ≡ call_of (said_in run (record { list = set ended n f; count = n + 1 })) → R ≡ line_from (reading_of run ended n f)
+    pub at-end : (R : Line) → R ≡ call_of (said_in run (take (n + 1) (set ended n f))) → R ≡ line_from (reading_of run ended n f)
     unfolding said_in line_from
     at-end R e = rw (of-few h, ← with-last) e
 
@@ -105,6 +106,6 @@ module _ (piece : List ℕ) (i : ℕ) (X : Reading) where
       piece_byte t after g r = rw (after-byte run ended n f s h (get_or piece i 0) t after g r) (next-byte (reading_of run ended n f) l e)
 
 -- the call by its name
-pub call-row : (fs : List Said) (k r : CallName) (R : Line) → r ≡ (get_or fs 0 nothing).name → r ≡ k → R ≡ row_of k fs → R ≡ call_of fs
+pub call_row : (fs : List Said) (k r : Option CallName) (R : Line) → r ≡ (get_or fs 0 nothing).name → r ≡ k → R ≡ row_of k fs → R ≡ call_of fs
 unfolding call_of
-call-row fs k r R e f g = let x : (get_or fs 0 nothing).name ≡ k = sym e ∙ f in rw x g
+call_row fs k r R e f g = let x : (get_or fs 0 nothing).name ≡ k = sym e ∙ f in rw x g

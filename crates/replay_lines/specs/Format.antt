@@ -1,6 +1,6 @@
 -- The replay format: which call a line is, from its bytes. Sentences of the format are quoted.
 use Rattle.std.specs.Prelude.{ℕ, ◌+◌, ◌-◌, ◌*◌, List, [], ◌∷◌, map, Bool, true, false, not, ◌&&◌, ◌||◌, length, drop, get_or, leb, eqb}
-use Rattle.std.proofs.Math.Option.{Option, some, none}
+use Rattle.std.specs.Prelude.{Option, Some, None}
 use Rattle.ascii.specs.Bytes.{pick, within, is_digit}
 use Rattle.ascii.specs.Literals.{text}
 use Rattle.ascii.specs.Reading.{head_of, is_empty}
@@ -57,21 +57,21 @@ abbrev pub is_percent : ℕ → Bool
 is_percent b = eqb b 37
 
 unfoldable pub with_byte : ℕ → Option Text → Option Text
-with_byte b (some t) = some (b ∷ t)
-with_byte b none = none
+with_byte b (Some t) = Some (b ∷ t)
+with_byte b None = None
 
 -- "every byte stands for itself, except that `%` and two hex digits (either case) stand for that byte";
 -- "A `%` not followed by two hex digits makes the line a bad line."
 unfoldable mutual
   pub decoded : Text → Option Text
-  decoded [] = some []
+  decoded [] = Some []
   decoded (x ∷ xs) = pick (is_percent x) (undone xs) (with_byte x (decoded xs))
 
   -- what follows a `%`
   pub undone : Text → Option Text
-  undone [] = none
-  undone (a ∷ []) = none
-  undone (a ∷ b ∷ xs) = pick (is_hex a && is_hex b) (with_byte (hex_byte a b) (decoded xs)) none
+  undone [] = None
+  undone (a ∷ []) = None
+  undone (a ∷ b ∷ xs) = pick (is_hex a && is_hex b) (with_byte (hex_byte a b) (decoded xs)) None
 
 -- "at most 4294967295"
 abbrev pub last_number : ℕ
@@ -82,11 +82,11 @@ unfoldable pub is_number : Text → Bool
 is_number u = not (is_empty u) && every is_digit u && not (leads_zero u) && leb (decimal u) last_number
 
 unfoldable pub number_of : Text → Option ℕ
-number_of u = pick (is_number u) (some (decimal u)) none
+number_of u = pick (is_number u) (Some (decimal u)) None
 
 -- "FULLSCREEN is `0` or `1`."
 unfoldable pub mark_of : Text → Option Bool
-mark_of u = pick (same_bytes u (text "0")) (some false) (pick (same_bytes u (text "1")) (some true) none)
+mark_of u = pick (same_bytes u (text "0")) (Some false) (pick (same_bytes u (text "1")) (Some true) None)
 
 -- whether a sandbox attribute stands, and its text
 pub record Sandbox : Type 0 where
@@ -94,30 +94,30 @@ pub record Sandbox : Type 0 where
   pub attribute : Text
 
 unfoldable pub sandboxed : Option Text → Option Sandbox
-sandboxed (some t) = some (record { stands = true; attribute = t })
-sandboxed none = none
+sandboxed (Some t) = Some (record { stands = true; attribute = t })
+sandboxed None = None
 
 -- "SANDBOX is `0` (no attribute) or `1` followed at once by the attribute's text"; "the first byte of SANDBOX is literal, and `0` stands alone."
 unfoldable pub sandbox_of : Text → Option Sandbox
 sandbox_of u =
     pick (eqb (head_of u) 49) (sandboxed (decoded (drop 1 u)))
-    (pick (same_bytes u (text "0")) (some (record { stands = false; attribute = [] })) none)
+    (pick (same_bytes u (text "0")) (Some (record { stands = false; attribute = [] })) None)
 
 -- the names of the table's rows
-unfoldable pub name_of : Text → CallName
+unfoldable pub name_of : Text → Option CallName
 name_of u =
-    pick (same_bytes u (text "top")) name.Top
-    (pick (same_bytes u (text "frame")) name.Frame
-    (pick (same_bytes u (text "unload")) name.Unload
-    (pick (same_bytes u (text "ask")) name.Ask
-    (pick (same_bytes u (text "enabled")) name.Enabled
-    (pick (same_bytes u (text "beneath")) name.Beneath
-    (pick (same_bytes u (text "forecast")) name.Forecast
-    (pick (same_bytes u (text "tidy")) name.Tidy name.Unknown)))))))
+    pick (same_bytes u (text "top")) (Some name.Top)
+    (pick (same_bytes u (text "frame")) (Some name.Frame)
+    (pick (same_bytes u (text "unload")) (Some name.Unload)
+    (pick (same_bytes u (text "ask")) (Some name.Ask)
+    (pick (same_bytes u (text "enabled")) (Some name.Enabled)
+    (pick (same_bytes u (text "beneath")) (Some name.Beneath)
+    (pick (same_bytes u (text "forecast")) (Some name.Forecast)
+    (pick (same_bytes u (text "tidy")) (Some name.Tidy) None)))))))
 
 -- what a field says by each of its readings: "`%` is undone in text fields only"
 pub record Said : Type 0 where
-  pub name : CallName
+  pub name : Option CallName
   pub number : Option ℕ
   pub mark : Option Bool
   pub sandbox : Option Sandbox
@@ -130,7 +130,7 @@ says u = record { name = name_of u; number = number_of u; mark = mark_of u; sand
 
 -- what a field says that isn't there, or that has no good reading
 abbrev pub nothing : Said
-nothing = record { name = name.Unknown; number = none; mark = none; sandbox = none; decoded = none }
+nothing = record { name = None; number = None; mark = None; sandbox = None; decoded = None }
 
 -- a row with so many fields, its name among them
 unfoldable pub of_fields : ℕ → List Said → Line → Line
@@ -138,8 +138,8 @@ of_fields n fs l = pick (eqb (length fs) n) l bad_line
 
 -- what follows from a reading, or else
 unfoldable pub given : {A B : Type 0} → B → Option A → (A → B) → B
-given b (some a) k = k a
-given b none k = b
+given b (Some a) k = k a
+given b None k = b
 
 abbrev pub or_bad : {A : Type 0} → Option A → (A → Line) → Line
 or_bad o k = given bad_line o k
@@ -160,11 +160,11 @@ sandbox_at fs j = (get_or fs j nothing).sandbox
 -- SRC FULLSCREEN ALLOW SANDBOX, from a place on
 unfoldable pub attributes_at : List Said → ℕ → Option Attributes
 attributes_at fs j =
-    given none (text_at fs j) λ src.
-    given none (mark_at fs (j + 1)) λ fullscreen.
-    given none (text_at fs (j + 2)) λ allow.
-    given none (sandbox_at fs (j + 3)) λ box.
-    some (record { allow = allow; allowfullscreen = fullscreen; has_sandbox = box.stands; sandbox = box.attribute; src = src })
+    given None (text_at fs j) λ src.
+    given None (mark_at fs (j + 1)) λ fullscreen.
+    given None (text_at fs (j + 2)) λ allow.
+    given None (sandbox_at fs (j + 3)) λ box.
+    Some (record { allow = allow; allowfullscreen = fullscreen; has_sandbox = box.stands; sandbox = box.attribute; src = src })
 
 -- the rows of the table
 unfoldable pub top_row : List Said → Line
@@ -193,16 +193,16 @@ forecast_row fs = of_fields 6 fs (or_bad (number_at fs 1) λ container. or_bad (
 unfoldable pub tidy_row : List Said → Line
 tidy_row fs = of_fields 3 fs (or_bad (number_at fs 1) λ room. or_bad (text_at fs 2) λ header. tidy room header)
 
-abbrev pub row_of : CallName → List Said → Line
-row_of name.Top fs = top_row fs
-row_of name.Frame fs = frame_row fs
-row_of name.Unload fs = unload_row fs
-row_of name.Ask fs = ask_row fs
-row_of name.Enabled fs = enabled_row fs
-row_of name.Beneath fs = beneath_row fs
-row_of name.Forecast fs = forecast_row fs
-row_of name.Tidy fs = tidy_row fs
-row_of name.Unknown fs = bad_line
+abbrev pub row_of : Option CallName → List Said → Line
+row_of (Some name.Top) fs = top_row fs
+row_of (Some name.Frame) fs = frame_row fs
+row_of (Some name.Unload) fs = unload_row fs
+row_of (Some name.Ask) fs = ask_row fs
+row_of (Some name.Enabled) fs = enabled_row fs
+row_of (Some name.Beneath) fs = beneath_row fs
+row_of (Some name.Forecast) fs = forecast_row fs
+row_of (Some name.Tidy) fs = tidy_row fs
+row_of None fs = bad_line
 
 -- the call that a line's fields are
 unfoldable pub call_of : List Said → Line

@@ -1,6 +1,6 @@
 -- A line as it is read byte by byte: what was read of it so far, and which call that is.
 use Rattle.std.specs.Prelude.{ℕ, suc, ◌+◌, ◌*◌, List, [], ◌∷◌, ◌++◌, map, Bool, true, false, not, ◌&&◌, ◌||◌, length, take, drop, ltb, eqb}
-use Rattle.std.proofs.Math.Option.{Option, some, none}
+use Rattle.std.specs.Prelude.{Option, Some, None}
 use Rattle.limits.specs.Limits.{text_bytes}
 use Rattle.ascii.specs.Bytes.{pick}
 use Rattle.ascii.specs.Literals.{text}
@@ -9,7 +9,6 @@ use Rattle.ascii.specs.Texts.{same_bytes}
 use Rattle.containers.specs.Attributes.{Attributes}
 use Rattle.replay_lines.specs.Format.{Text, Line, Sandbox, Said, is_tab, is_percent, is_hex, hex_byte, name_of, number_of, mark_of, call_of}
 use Rattle.replay_lines.specs.Format.Line.{top, frame, unload, ask, enabled, beneath, forecast, tidy, bad_line}
-use Rattle.replay_lines.specs.declared.CallName.TheVariants as name
 use Rattle.replay_lines.specs.declared.Place.{Place}
 use Rattle.replay_lines.specs.declared.Place.TheVariants.{Plain, Percent, Digit, Broken}
 
@@ -98,18 +97,18 @@ is_literal f = is_whole f.place && not f.escaped
 -- SANDBOX, from the bytes that are kept
 unfoldable pub kept_sandbox : Text → Option Sandbox
 kept_sandbox t =
-    pick (eqb (head_of t) 49) (some (record { stands = true; attribute = take kept_text (drop 1 t) }))
-    (pick (same_bytes t (text "0")) (some (record { stands = false; attribute = [] })) none)
+    pick (eqb (head_of t) 49) (Some (record { stands = true; attribute = take kept_text (drop 1 t) }))
+    (pick (same_bytes t (text "0")) (Some (record { stands = false; attribute = [] })) None)
 
 -- what a field says by each of its readings
 unfoldable pub kept_says : Field → Said
 kept_says f =
     record {
-      name = pick (is_literal f) (name_of f.kept) name.Unknown;
-      number = pick (is_literal f) (number_of f.kept) none;
-      mark = pick (is_literal f) (mark_of f.kept) none;
-      sandbox = pick (is_whole f.place && not f.opens) (kept_sandbox f.kept) none;
-      decoded = pick (is_whole f.place) (some (take kept_text f.kept)) none;
+      name = pick (is_literal f) (name_of f.kept) None;
+      number = pick (is_literal f) (number_of f.kept) None;
+      mark = pick (is_literal f) (mark_of f.kept) None;
+      sandbox = pick (is_whole f.place && not f.opens) (kept_sandbox f.kept) None;
+      decoded = pick (is_whole f.place) (Some (take kept_text f.kept)) None;
     }
 
 -- the call that a line is, read to its end

@@ -1,10 +1,11 @@
 // The lines of the replay format: read in pieces of any size, and which call a line is.
 #![tactic(auto)]
 
+ghost use Rattle.std.specs.Option.{option_copied};
 ghost use Rattle.std.specs.Prelude.{◌≡◌, ℕ, ◌+◌, ◌≤◌, ◌<◌, min, List, length, get_or};
 ghost use Rattle.replay_lines.specs.Format.{is_hex, hex_value, hex_byte, number_of, mark_of, name_of, nothing, number_at, mark_at, text_at, sandbox_at, attributes_at, top_row, frame_row, unload_row, ask_row, enabled_row, beneath_row, forecast_row, tidy_row, call_of};
 ghost use Rattle.replay_lines.specs.Reading.{field_limit, line_bytes, new_reading, read_on, is_whole, line_from};
-ghost use Rattle.replay_lines.specs.Answers.{fresh_field, moved_as, literal_as, kept_in, reading_in, IsKept, IsByteRead, IsFieldAt, Ready, upto, digits_in, number_in, mark_in, text_in, sandbox_in, attribute_fields_in, said_in, line_in};
+ghost use Rattle.replay_lines.specs.Answers.{IsLiteral, fresh_field, moved_as, literal_as, kept_in, reading_in, IsKept, IsByteRead, IsFieldAt, text_in, sandbox_in, attribute_fields_in, said_in, line_in};
 
 use ascii::TextRange;
 use limits::TEXT_BYTES;
@@ -19,12 +20,12 @@ pub const FIELD_BYTES: usize = TEXT_BYTES + 2;
 pub const LINE_BYTES: usize = FIELDS * FIELD_BYTES;
 
 // The greatest number of a line.
-pub const LAST_NUMBER: u64 = 4_294_967_295;
+pub const LAST_NUMBER: u32 = 4_294_967_295;
 
 const TAB: u8 = 9;
 
 // Where a field stands in a `%`.
-#[derive(Clone, Copy)]
+#[derive(Clone, Copy, PartialEq, Eq)]
 pub enum Place {
     // each `%` so far has its two digits
     Plain,
@@ -63,55 +64,13 @@ pub enum CallName {
     Beneath,
     Forecast,
     Tidy,
-    Unknown,
 }
 
-// The fields of a line, `count` of them.
-#[derive(Clone, Copy)]
-struct Fields {
-    list: [FieldState; FIELDS],
-    count: usize,
-}
-
-// Digits, read in decimal.
-#[derive(Clone, Copy)]
-enum Digits {
-    Number(u64),
-    None,
-}
-
-// A field read as a number.
-#[derive(Clone, Copy)]
-enum NumberField {
-    Number(u32),
-    None,
-}
-
-// FULLSCREEN, read.
-#[derive(Clone, Copy)]
-enum MarkField {
-    Mark(bool),
-    None,
-}
-
-// A text field: where its text stands in the run.
-#[derive(Clone, Copy)]
-enum TextField {
-    Text(TextRange),
-    None,
-}
-
-// Whether a sandbox attribute stands, and where its text does.
+// Whether a sandbox attribute stands, and where its text does: apart, as the calls take them.
 #[derive(Clone, Copy)]
 pub struct SandboxRange {
     pub stands: bool,
     pub text: TextRange,
-}
-
-#[derive(Clone, Copy)]
-enum SandboxField {
-    Sandbox(SandboxRange),
-    None,
 }
 
 // A frame's attributes: where their texts stand in the run.
@@ -121,12 +80,6 @@ pub struct AttributeRanges {
     pub fullscreen: bool,
     pub allow: TextRange,
     pub sandbox: SandboxRange,
-}
-
-#[derive(Clone, Copy)]
-enum AttributeFields {
-    Attributes(AttributeRanges),
-    None,
 }
 
 #[derive(Clone, Copy)]
@@ -181,8 +134,6 @@ pub enum Line {
     Beneath(BeneathLine),
     Forecast(ForecastLine),
     Tidy(TidyLine),
-    // none of the calls
-    Bad,
 }
 
 fn is_hex(b: u8) -> bool
@@ -323,8 +274,7 @@ fn read_piece(state: LineState, piece: &[u8], run: &mut [u8]) -> LineState
     let mut ended = state.ended;
     let mut number = state.number;
     let mut field = state.field;
-    let mut i: usize = 0;
-    while i < piece.len() {
+    for b in piece {
         if FIELDS <= number {
             return LineState {
                 ended,
@@ -332,15 +282,12 @@ fn read_piece(state: LineState, piece: &[u8], run: &mut [u8]) -> LineState
                 field,
             };
         }
-        let b = piece[i];
-        if b == TAB {
+        if *b == TAB {
             ended[number] = field;
             number += 1;
             field = new_field();
-            i += 1;
         } else {
-            field = read_byte(field, b, number, run);
-            i += 1;
+            field = read_byte(field, *b, number, run);
         }
     }
     LineState {
@@ -357,122 +304,82 @@ pub fn read(state: LineState, piece: &[u8], run: &mut [u8; LINE_BYTES]) -> LineS
     read_piece(state, piece, run)
 }
 
-// Digits, read in decimal, worth at most so much; none is no number.
-fn decimal(t: &[u8], most: u64) -> Digits
-    ensures { digits_in result ≡ upto most t.now }
-{
-    if t.len() == 0 {
-        return Digits::None;
-    }
-    let mut n: u64 = 0;
-    let mut i: usize = 0;
-    while i < t.len() {
-        let b = t[i];
-        if !ascii::is_digit(b) {
-            return Digits::None;
-        }
-        let d = origins::digit(b) as u64;
-        if most < d {
-            return Digits::None;
-        }
-        if (most - d) / 10 < n {
-            return Digits::None;
-        }
-        n = n * 10 + d;
-        i += 1;
-    }
-    Digits::Number(n)
-}
-
 // A number: decimal, with no leading zero.
-fn number(t: &[u8]) -> NumberField
-    ensures { number_in result ≡ number_of t.now }
+fn number(t: &[u8]) -> Option<u32>
+    ensures { result ≡ number_of t.now }
 {
     if origins::leads_zero(t) {
-        return NumberField::None;
+        return None;
     }
-    match decimal(t, LAST_NUMBER) {
-        Digits::Number(n) => NumberField::Number(n as u32),
-        Digits::None => NumberField::None,
-    }
+    ascii::decimal(t, LAST_NUMBER)
 }
 
 // FULLSCREEN: `0` or `1`.
-fn mark(t: &[u8]) -> MarkField
-    ensures { mark_in result ≡ mark_of t.now }
+fn mark(t: &[u8]) -> Option<bool>
+    ensures { result ≡ mark_of t.now }
 {
     if ascii::same(t, b"0") {
-        return MarkField::Mark(false);
+        return Some(false);
     }
     if ascii::same(t, b"1") {
-        MarkField::Mark(true)
+        Some(true)
     } else {
-        MarkField::None
+        None
     }
 }
 
 // The call that a text names.
-fn name(t: &[u8]) -> CallName
+fn name(t: &[u8]) -> Option<CallName>
     ensures { result ≡ name_of t.now }
 {
     if ascii::same(t, b"top") {
-        return CallName::Top;
+        return Some(CallName::Top);
     }
     if ascii::same(t, b"frame") {
-        return CallName::Frame;
+        return Some(CallName::Frame);
     }
     if ascii::same(t, b"unload") {
-        return CallName::Unload;
+        return Some(CallName::Unload);
     }
     if ascii::same(t, b"ask") {
-        return CallName::Ask;
+        return Some(CallName::Ask);
     }
     if ascii::same(t, b"enabled") {
-        return CallName::Enabled;
+        return Some(CallName::Enabled);
     }
     if ascii::same(t, b"beneath") {
-        return CallName::Beneath;
+        return Some(CallName::Beneath);
     }
     if ascii::same(t, b"forecast") {
-        return CallName::Forecast;
+        return Some(CallName::Forecast);
     }
     if ascii::same(t, b"tidy") {
-        CallName::Tidy
+        Some(CallName::Tidy)
     } else {
-        CallName::Unknown
+        None
     }
 }
 
 // The field at a place of a line; one that isn't there reads as a broken one.
-fn field_at(fs: Fields, j: usize) -> FieldState
+fn field_at(fields: &[FieldState], j: usize) -> FieldState
     requires { j < field_limit }
-    ensures { IsFieldAt fs j result }
+    ensures { IsFieldAt fields.now j result }
 {
-    if j < fs.count {
-        fs.list[j]
-    } else {
-        FieldState {
-            kept: 0,
-            escaped: false,
-            opens: false,
-            place: Place::Broken,
-        }
-    }
-}
-
-fn least(a: usize, b: usize) -> usize
-    ensures { result ≡ min a b }
-{
-    if a < b { a } else { b }
+    fields.get(j).copied().unwrap_or(FieldState {
+        kept: 0,
+        escaped: false,
+        opens: false,
+        place: Place::Broken,
+    })
 }
 
 // The bytes that a field keeps.
-fn kept(n: usize, j: usize, run: &[u8]) -> &[u8]
-    requires { (j < field_limit) × (length run.now ≡ line_bytes) }
+fn kept(n: usize, j: usize, run: &[u8; LINE_BYTES]) -> &[u8]
+    requires { j < field_limit }
     ensures { result.now ≡ kept_in run.now j n }
 {
     let from = j * FIELD_BYTES;
-    let to = from + least(n, FIELD_BYTES);
+    let to = from + n.min(FIELD_BYTES);
     ascii::part(run, from, to)
 }
 
@@ -480,12 +387,7 @@ fn kept(n: usize, j: usize, run: &[u8]) -> &[u8]
 fn is_whole(p: Place) -> bool
     ensures { result ≡ is_whole p }
 {
-    match p {
-        Place::Plain => true,
-        Place::Percent => false,
-        Place::Digit(_) => false,
-        Place::Broken => false,
-    }
+    p == Place::Plain
 }
 
 // Whether a field has no `%`.
@@ -496,76 +398,77 @@ fn is_literal(f: FieldState) -> bool
     is_whole(p) & !f.escaped
 }
 
+// The text of the field at a place that has no `%`.
+fn literal<'a>(fields: &[FieldState], j: usize, run: &'a [u8; LINE_BYTES]) -> Option<&'a [u8]>
+    requires { j < field_limit }
+    ensures { IsLiteral (get_or (said_in run.now fields.now) j nothing) (option_copied result) }
+{
+    let f = field_at(fields, j);
+    if is_literal(f) {
+        Some(kept(f.kept, j, run))
+    } else {
+        None
+    }
+}
+
 // The field at a place, by each of its readings.
-fn name_at(fs: Fields, j: usize, run: &[u8]) -> CallName
-    requires { (j < field_limit) × (length run.now ≡ line_bytes) }
-    ensures { result ≡ (get_or (said_in run.now fs) j nothing).name }
+fn name_at(fields: &[FieldState], j: usize, run: &[u8; LINE_BYTES]) -> Option<CallName>
+    requires { j < field_limit }
+    ensures { result ≡ (get_or (said_in run.now fields.now) j nothing).name }
 {
-    let f = field_at(fs, j);
-    if is_literal(f) {
-        name(kept(f.kept, j, run))
-    } else {
-        CallName::Unknown
-    }
+    let text = literal(fields, j, run)?;
+    name(text)
 }
 
-fn number_at(fs: Fields, j: usize, run: &[u8]) -> NumberField
-    requires { (j < field_limit) × (length run.now ≡ line_bytes) }
-    ensures { number_in result ≡ number_at (said_in run.now fs) j }
+fn number_at(fields: &[FieldState], j: usize, run: &[u8; LINE_BYTES]) -> Option<u32>
+    requires { j < field_limit }
+    ensures { result ≡ number_at (said_in run.now fields.now) j }
 {
-    let f = field_at(fs, j);
-    if is_literal(f) {
-        number(kept(f.kept, j, run))
-    } else {
-        NumberField::None
-    }
+    let text = literal(fields, j, run)?;
+    number(text)
 }
 
-fn mark_at(fs: Fields, j: usize, run: &[u8]) -> MarkField
-    requires { (j < field_limit) × (length run.now ≡ line_bytes) }
-    ensures { mark_in result ≡ mark_at (said_in run.now fs) j }
+fn mark_at(fields: &[FieldState], j: usize, run: &[u8; LINE_BYTES]) -> Option<bool>
+    requires { j < field_limit }
+    ensures { result ≡ mark_at (said_in run.now fields.now) j }
 {
-    let f = field_at(fs, j);
-    if is_literal(f) {
-        mark(kept(f.kept, j, run))
-    } else {
-        MarkField::None
-    }
+    let text = literal(fields, j, run)?;
+    mark(text)
 }
 
 // A text, at most one byte more of it than the limit.
-fn text_at(fs: Fields, j: usize, run: &[u8]) -> TextField
-    requires { (j < field_limit) × (length run.now ≡ line_bytes) }
-    ensures { text_in run.now result ≡ text_at (said_in run.now fs) j }
+fn text_at(fields: &[FieldState], j: usize, run: &[u8; LINE_BYTES]) -> Option<TextRange>
+    requires { j < field_limit }
+    ensures { text_in run.now result ≡ text_at (said_in run.now fields.now) j }
 {
-    let f = field_at(fs, j);
+    let f = field_at(fields, j);
     let p = f.place;
     if is_whole(p) {
         let t = kept(f.kept, j, run);
         let from = j * FIELD_BYTES;
-        TextField::Text(TextRange {
+        Some(TextRange {
             from,
-            to: from + least(t.len(), TEXT_BYTES + 1),
+            to: from + t.len().min(TEXT_BYTES + 1),
         })
     } else {
-        TextField::None
+        None
     }
 }
 
 // SANDBOX: `0`, or `1` and the attribute's text.
-fn sandbox_at(fs: Fields, j: usize, run: &[u8]) -> SandboxField
-    requires { (j < field_limit) × (length run.now ≡ line_bytes) }
-    ensures { sandbox_in run.now result ≡ sandbox_at (said_in run.now fs) j }
+fn sandbox_at(fields: &[FieldState], j: usize, run: &[u8; LINE_BYTES]) -> Option<SandboxRange>
+    requires { j < field_limit }
+    ensures { sandbox_in run.now result ≡ sandbox_at (said_in run.now fields.now) j }
 {
-    let f = field_at(fs, j);
+    let f = field_at(fields, j);
     let p = f.place;
     if !(is_whole(p) & !f.opens) {
-        return SandboxField::None;
+        return None;
     }
     let t = kept(f.kept, j, run);
     if ascii::byte(t, 0) == b'1' {
         let from = j * FIELD_BYTES;
-        return SandboxField::Sandbox(SandboxRange {
+        return Some(SandboxRange {
             stands: true,
             text: TextRange {
                 from: from + 1,
@@ -574,33 +477,26 @@ fn sandbox_at(fs: Fields, j: usize, run: &[u8]) -> SandboxField
         });
     }
     if ascii::same(t, b"0") {
-        SandboxField::Sandbox(SandboxRange {
+        Some(SandboxRange {
             stands: false,
             text: TextRange { from: 0, to: 0 },
         })
     } else {
-        SandboxField::None
+        None
     }
 }
 
 // SRC FULLSCREEN ALLOW SANDBOX, from a place on.
-fn attributes_at(fs: Fields, j: usize, run: &[u8]) -> AttributeFields
-    requires { (j + 3 < field_limit) × (length run.now ≡ line_bytes) }
-    ensures { attribute_fields_in run.now result ≡ attributes_at (said_in run.now fs) j }
+#[tactic(auto, using(crate::proofs::Choices::givens), unfolding(crate::specs::Format::attributes_at))]
+fn attributes_at(fields: &[FieldState], j: usize, run: &[u8; LINE_BYTES]) -> Option<AttributeRanges>
+    requires { j + 3 < field_limit }
+    ensures { attribute_fields_in run.now result ≡ attributes_at (said_in run.now fields.now) j }
 {
-    let TextField::Text(src) = text_at(fs, j, run) else {
-        return AttributeFields::None;
-    };
-    let MarkField::Mark(fullscreen) = mark_at(fs, j + 1, run) else {
-        return AttributeFields::None;
-    };
-    let TextField::Text(allow) = text_at(fs, j + 2, run) else {
-        return AttributeFields::None;
-    };
-    let SandboxField::Sandbox(sandbox) = sandbox_at(fs, j + 3, run) else {
-        return AttributeFields::None;
-    };
-    AttributeFields::Attributes(AttributeRanges {
+    let src = text_at(fields, j, run)?;
+    let fullscreen = mark_at(fields, j + 1, run)?;
+    let allow = text_at(fields, j + 2, run)?;
+    let sandbox = sandbox_at(fields, j + 3, run)?;
+    Some(AttributeRanges {
         src,
         fullscreen,
         allow,
@@ -608,184 +504,142 @@ fn attributes_at(fs: Fields, j: usize, run: &[u8]) -> AttributeFields
     })
 }
 
-// The rows of the format's table.
-fn top_line(fs: Fields, run: &[u8]) -> Line
-    requires { Ready fs run.now }
-    ensures { line_in run.now result ≡ top_row (said_in run.now fs) }
+// The rows of the format's table, a function for each, since each is a row there.
+#[tactic(auto, using(crate::proofs::Choices::rows), unfolding(crate::specs::Format::top_row))]
+fn top_line(fields: &[FieldState], run: &[u8; LINE_BYTES]) -> Option<Line>
+    ensures { line_in run.now result ≡ top_row (said_in run.now fields.now) }
 {
-    if fs.count != 3 {
-        return Line::Bad;
+    if fields.len() != 3 {
+        return None;
     }
-    let TextField::Text(origin) = text_at(fs, 1, run) else {
-        return Line::Bad;
-    };
-    let TextField::Text(header) = text_at(fs, 2, run) else {
-        return Line::Bad;
-    };
-    Line::Top(TopLine { origin, header })
+    let origin = text_at(fields, 1, run)?;
+    let header = text_at(fields, 2, run)?;
+    Some(Line::Top(TopLine { origin, header }))
 }
 
-fn frame_line(fs: Fields, run: &[u8]) -> Line
-    requires { Ready fs run.now }
-    ensures { line_in run.now result ≡ frame_row (said_in run.now fs) }
+#[tactic(auto, using(crate::proofs::Choices::rows), unfolding(crate::specs::Format::frame_row))]
+fn frame_line(fields: &[FieldState], run: &[u8; LINE_BYTES]) -> Option<Line>
+    ensures { line_in run.now result ≡ frame_row (said_in run.now fields.now) }
 {
-    if fs.count != 8 {
-        return Line::Bad;
+    if fields.len() != 8 {
+        return None;
     }
-    let NumberField::Number(container) = number_at(fs, 1, run) else {
-        return Line::Bad;
-    };
-    let TextField::Text(origin) = text_at(fs, 2, run) else {
-        return Line::Bad;
-    };
-    let AttributeFields::Attributes(attributes) = attributes_at(fs, 3, run) else {
-        return Line::Bad;
-    };
-    let TextField::Text(header) = text_at(fs, 7, run) else {
-        return Line::Bad;
-    };
-    Line::Frame(FrameLine {
+    let container = number_at(fields, 1, run)?;
+    let origin = text_at(fields, 2, run)?;
+    let attributes = attributes_at(fields, 3, run)?;
+    let header = text_at(fields, 7, run)?;
+    Some(Line::Frame(FrameLine {
         container,
         origin,
         attributes,
         header,
-    })
+    }))
 }
 
-fn unload_line(fs: Fields, run: &[u8]) -> Line
-    requires { Ready fs run.now }
-    ensures { line_in run.now result ≡ unload_row (said_in run.now fs) }
+#[tactic(auto, using(crate::proofs::Choices::rows), unfolding(crate::specs::Format::unload_row))]
+fn unload_line(fields: &[FieldState], run: &[u8; LINE_BYTES]) -> Option<Line>
+    ensures { line_in run.now result ≡ unload_row (said_in run.now fields.now) }
 {
-    if fs.count != 2 {
-        return Line::Bad;
+    if fields.len() != 2 {
+        return None;
     }
-    let NumberField::Number(serial) = number_at(fs, 1, run) else {
-        return Line::Bad;
-    };
-    Line::Unload(serial)
+    let serial = number_at(fields, 1, run)?;
+    Some(Line::Unload(serial))
 }
 
-fn ask_line(fs: Fields, run: &[u8]) -> Line
-    requires { Ready fs run.now }
-    ensures { line_in run.now result ≡ ask_row (said_in run.now fs) }
+#[tactic(auto, using(crate::proofs::Choices::rows), unfolding(crate::specs::Format::ask_row))]
+fn ask_line(fields: &[FieldState], run: &[u8; LINE_BYTES]) -> Option<Line>
+    ensures { line_in run.now result ≡ ask_row (said_in run.now fields.now) }
 {
-    if fs.count != 4 {
-        return Line::Bad;
+    if fields.len() != 4 {
+        return None;
     }
-    let NumberField::Number(serial) = number_at(fs, 1, run) else {
-        return Line::Bad;
-    };
-    let NumberField::Number(feature) = number_at(fs, 2, run) else {
-        return Line::Bad;
-    };
-    let TextField::Text(origin) = text_at(fs, 3, run) else {
-        return Line::Bad;
-    };
-    Line::Ask(AskLine {
+    let serial = number_at(fields, 1, run)?;
+    let feature = number_at(fields, 2, run)?;
+    let origin = text_at(fields, 3, run)?;
+    Some(Line::Ask(AskLine {
         serial,
         feature,
         origin,
-    })
+    }))
 }
 
-fn enabled_line(fs: Fields, run: &[u8]) -> Line
-    requires { Ready fs run.now }
-    ensures { line_in run.now result ≡ enabled_row (said_in run.now fs) }
+#[tactic(auto, using(crate::proofs::Choices::rows), unfolding(crate::specs::Format::enabled_row))]
+fn enabled_line(fields: &[FieldState], run: &[u8; LINE_BYTES]) -> Option<Line>
+    ensures { line_in run.now result ≡ enabled_row (said_in run.now fields.now) }
 {
-    if fs.count != 2 {
-        return Line::Bad;
+    if fields.len() != 2 {
+        return None;
     }
-    let NumberField::Number(serial) = number_at(fs, 1, run) else {
-        return Line::Bad;
-    };
-    Line::Enabled(serial)
+    let serial = number_at(fields, 1, run)?;
+    Some(Line::Enabled(serial))
 }
 
-fn beneath_line(fs: Fields, run: &[u8]) -> Line
-    requires { Ready fs run.now }
-    ensures { line_in run.now result ≡ beneath_row (said_in run.now fs) }
+#[tactic(auto, using(crate::proofs::Choices::rows), unfolding(crate::specs::Format::beneath_row))]
+fn beneath_line(fields: &[FieldState], run: &[u8; LINE_BYTES]) -> Option<Line>
+    ensures { line_in run.now result ≡ beneath_row (said_in run.now fields.now) }
 {
-    if fs.count != 3 {
-        return Line::Bad;
+    if fields.len() != 3 {
+        return None;
     }
-    let NumberField::Number(serial) = number_at(fs, 1, run) else {
-        return Line::Bad;
-    };
-    let NumberField::Number(room) = number_at(fs, 2, run) else {
-        return Line::Bad;
-    };
-    Line::Beneath(BeneathLine { serial, room })
+    let serial = number_at(fields, 1, run)?;
+    let room = number_at(fields, 2, run)?;
+    Some(Line::Beneath(BeneathLine { serial, room }))
 }
 
-fn forecast_line(fs: Fields, run: &[u8]) -> Line
-    requires { Ready fs run.now }
-    ensures { line_in run.now result ≡ forecast_row (said_in run.now fs) }
+#[tactic(auto, using(crate::proofs::Choices::rows), unfolding(crate::specs::Format::forecast_row))]
+fn forecast_line(fields: &[FieldState], run: &[u8; LINE_BYTES]) -> Option<Line>
+    ensures { line_in run.now result ≡ forecast_row (said_in run.now fields.now) }
 {
-    if fs.count != 6 {
-        return Line::Bad;
+    if fields.len() != 6 {
+        return None;
     }
-    let NumberField::Number(container) = number_at(fs, 1, run) else {
-        return Line::Bad;
-    };
-    let AttributeFields::Attributes(attributes) = attributes_at(fs, 2, run) else {
-        return Line::Bad;
-    };
-    Line::Forecast(ForecastLine {
+    let container = number_at(fields, 1, run)?;
+    let attributes = attributes_at(fields, 2, run)?;
+    Some(Line::Forecast(ForecastLine {
         container,
         attributes,
-    })
+    }))
 }
 
-fn tidy_line(fs: Fields, run: &[u8]) -> Line
-    requires { Ready fs run.now }
-    ensures { line_in run.now result ≡ tidy_row (said_in run.now fs) }
+#[tactic(auto, using(crate::proofs::Choices::rows), unfolding(crate::specs::Format::tidy_row))]
+fn tidy_line(fields: &[FieldState], run: &[u8; LINE_BYTES]) -> Option<Line>
+    ensures { line_in run.now result ≡ tidy_row (said_in run.now fields.now) }
 {
-    if fs.count != 3 {
-        return Line::Bad;
+    if fields.len() != 3 {
+        return None;
     }
-    let NumberField::Number(room) = number_at(fs, 1, run) else {
-        return Line::Bad;
-    };
-    let TextField::Text(header) = text_at(fs, 2, run) else {
-        return Line::Bad;
-    };
-    Line::Tidy(TidyLine { room, header })
+    let room = number_at(fields, 1, run)?;
+    let header = text_at(fields, 2, run)?;
+    Some(Line::Tidy(TidyLine { room, header }))
 }
 
 // The call that a line's fields are, by its name.
-fn row(fs: Fields, run: &[u8]) -> Line
-    requires { Ready fs run.now }
-    ensures { line_in run.now result ≡ call_of (said_in run.now fs) }
+#[tactic(auto, using(crate::proofs::Lines::call_row))]
+fn row(fields: &[FieldState], run: &[u8; LINE_BYTES]) -> Option<Line>
+    ensures { line_in run.now result ≡ call_of (said_in run.now fields.now) }
 {
-    match name_at(fs, 0, run) {
-        CallName::Top => top_line(fs, run),
-        CallName::Frame => frame_line(fs, run),
-        CallName::Unload => unload_line(fs, run),
-        CallName::Ask => ask_line(fs, run),
-        CallName::Enabled => enabled_line(fs, run),
-        CallName::Beneath => beneath_line(fs, run),
-        CallName::Forecast => forecast_line(fs, run),
-        CallName::Tidy => tidy_line(fs, run),
-        CallName::Unknown => Line::Bad,
+    match name_at(fields, 0, run)? {
+        CallName::Top => top_line(fields, run),
+        CallName::Frame => frame_line(fields, run),
+        CallName::Unload => unload_line(fields, run),
+        CallName::Ask => ask_line(fields, run),
+        CallName::Enabled => enabled_line(fields, run),
+        CallName::Beneath => beneath_line(fields, run),
+        CallName::Forecast => forecast_line(fields, run),
+        CallName::Tidy => tidy_line(fields, run),
     }
 }
 
 // The call that a line is, read to its end.
-pub fn call(state: LineState, run: &[u8; LINE_BYTES]) -> Line
+pub fn call(state: LineState, run: &[u8; LINE_BYTES]) -> Option<Line>
     ensures { line_in run.now result ≡ line_from (reading_in run.now state) }
 {
     let number = state.number;
     if FIELDS <= number {
-        return Line::Bad;
+        return None;
     }
-    let mut list = state.ended;
-    let last = state.field;
-    list[number] = last;
-    row(
-        Fields {
-            list,
-            count: number + 1,
-        },
-        run,
-    )
+    let mut fields = state.ended;
+    fields[number] = state.field;
+    row(&fields[..number + 1], run)
 }

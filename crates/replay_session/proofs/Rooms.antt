@@ -1,9 +1,11 @@
 -- A lent run of more places than an output can need is as good as one of just so many. Assumes nothing.
+use Rattle.limits.specs.declared.Refusal.{Refusal}
+use Rattle.std.specs.Prelude.{Result, Ok, Err}
 use mathlib.Core.Path.{◌≡◌, refl, ap, ◌∙◌, sym}
 use Prim.Native.Nat.{ℕ, min, ◌≤◌, ◌<◌}
 use mathlib.Core.List.{List, ◌++◌}
 use mathlib.Core.Bool.{Bool, true, false}
-use mathlib.Core.Option.{Option, some, none}
+use Rattle.std.specs.Prelude.{Option, Some, None}
 use native.Mathlib.Omega.{arith}
 use lib.ListN.{length, take, drop, replicate, length-replicate}
 use lib.Dec.{leb}
@@ -14,8 +16,6 @@ use Rattle.limits.specs.Refusals.{refusal_number}
 use Rattle.limits.specs.declared.Refusal.TheVariants.{NotLoaded, Small}
 use Rattle.tidying.specs.Tidied.{tidied}
 use Rattle.tidying.specs.Answers.{Answer as TidyOutcome, length_is, refusal, tidy_answer, IsTidied}
-use Rattle.tidying.specs.declared.TidyAnswer.{TidyAnswer}
-use Rattle.tidying.specs.declared.TidyAnswer.TheVariants as tidy
 use Rattle.tidying.proofs.Rooms.{answer-length, run-accepted}
 use Rattle.document_model.specs.Model.{Document, Table as ModelTable, find, serials_beneath, stored, listing, serials, refuse, accept, answer_to}
 use Rattle.document_model.proofs.Laws.{beneath-fewer}
@@ -38,8 +38,8 @@ shown l run =
 
 module _ (t : ModelTable) (s : ℕ) (a b : List ℕ) (wide : length (serials_beneath s t.docs) ≤ length a → length (serials_beneath s t.docs) ≤ length b) (back : length (serials_beneath s t.docs) ≤ length b → length (serials_beneath s t.docs) ≤ length a) where
   found-room : (o : Option Document) → find s t.docs ≡ o → answer_text (answer_to (listing s a) t) ≡ answer_text (answer_to (listing s b) t)
-  found-room none e = ap answer_text (answer-of (listing s a) t (refuse NotLoaded) (listing-closed s a t e) ∙ sym (answer-of (listing s b) t (refuse NotLoaded) (listing-closed s b t e)))
-  found-room (some d) e = go (leb (length (serials_beneath s t.docs)) (length a)) refl
+  found-room None e = ap answer_text (answer-of (listing s a) t (refuse NotLoaded) (listing-closed s a t e) ∙ sym (answer-of (listing s b) t (refuse NotLoaded) (listing-closed s b t e)))
+  found-room (Some d) e = go (leb (length (serials_beneath s t.docs)) (length a)) refl
     where
       go : (x : Bool) → leb (length (serials_beneath s t.docs)) (length a) ≡ x → answer_text (answer_to (listing s a) t) ≡ answer_text (answer_to (listing s b) t)
       go true k =
@@ -76,13 +76,13 @@ take-front t rest n e =
     take-append-le n t rest le ∙ take_all n t ge
 
 -- the text of tidying's answer, by the header and the lent run's length
-pub tidy-shown : (s run after : List ℕ) (a : TidyAnswer) → IsTidied s run after a → tidy_text a after ≡ tidy_line_text (tidy_answer s (length run)) (tidied s)
-tidy-shown s run after (tidy.Length n) h =
+pub tidy-shown : (s run after : List ℕ) (a : Result ℕ Refusal) → IsTidied s run after a → tidy_text a after ≡ tidy_line_text (tidy_answer s (length run)) (tidied s)
+tidy-shown s run after (Ok n) h =
     let e : length_is n ≡ tidy_answer s (length run) = h.answer in
     let f : after ≡ tidied s ++ drop n run = h.bytes ∙ run-accepted n (tidied s) run in
     tidied-text n after
     ∙ (ap (λ (l : List ℕ). tidied_text (take n l)) f
     ∙ (ap tidied_text (take-front (tidied s) (drop n run) n (answer-length s (length run) n e)) ∙ ap (λ (x : TidyOutcome). tidy_line_text x (tidied s)) e))
-tidy-shown s run after (tidy.Refused n) h =
+tidy-shown s run after (Err n) h =
     let e : refusal (refusal_number n) ≡ tidy_answer s (length run) = h.answer in
     tidy-refused n after ∙ ap (λ (x : TidyOutcome). tidy_line_text x (tidied s)) e

@@ -1,7 +1,7 @@
 // A line of the replay format on a table of documents: the call that it is, made, and its answer put into a lent run.
 #![tactic(auto)]
 
-ghost use Rattle.std.specs.Prelude.{◌≡◌, min, ◌≤◌, length};
+ghost use Rattle.std.specs.Prelude.{◌≡◌, ◌≤◌, length};
 ghost use Rattle.ascii.specs.Texts.{part_in};
 ghost use Rattle.tidying.specs.Tidied.{tidied};
 ghost use Rattle.tidying.specs.Answers.{tidy_answer};
@@ -17,24 +17,11 @@ ghost use Rattle.replay_lines.specs.Answers.{attributes_in, line_in};
 ghost use Rattle.replay_session.specs.Session.{tidy_line_text, line_answer};
 ghost use Rattle.replay_session.specs.Answers.{marks_in, Makes, Answers};
 
-use ascii::TextRange;
 use document_loads::FrameMarks;
 use limits::{DOCUMENTS, TEXT_BYTES};
 use replay_lines::{
     AskLine, AttributeRanges, BeneathLine, ForecastLine, FrameLine, Line, TidyLine, TopLine,
 };
-
-fn text(texts: &[u8], p: TextRange) -> &[u8]
-    ensures { result.now ≡ part_in texts.now p }
-{
-    ascii::part(texts, p.from, p.to)
-}
-
-fn least(a: usize, b: usize) -> usize
-    ensures { (result ≡ min a b) × (result ≤ b) }
-{
-    if a < b { a } else { b }
-}
 
 fn marks(a: AttributeRanges) -> FrameMarks
     ensures { result ≡ marks_in a }
@@ -49,27 +36,7 @@ fn top_line(run: &mut [u8], l: TopLine, texts: &[u8], out: &mut [u8], at: usize)
     requires { Valid run.old }
     ensures { Makes (top_load (part_in texts.now l.header) (part_in texts.now l.origin)) run.old run.new out.old at out.new result }
 {
-    let a = documents::load_top(run, text(texts, l.origin), text(texts, l.header));
-    replay_answers::put_load(out, at, a)
-}
-
-// A framed load, and its answer put.
-fn frame_put(
-    run: &mut [u8],
-    container: u32,
-    origin: &[u8],
-    src: &[u8],
-    marks: FrameMarks,
-    allow: &[u8],
-    sandbox: &[u8],
-    header: &[u8],
-    out: &mut [u8],
-    at: usize,
-) -> usize
-    requires { Valid run.old }
-    ensures { Makes (framed_load container header.now origin.now (attributes allow.now marks sandbox.now src.now)) run.old run.new out.old at out.new result }
-{
-    let a = documents::load_framed(run, container, origin, src, marks, allow, sandbox, header);
+    let a = documents::load_top(run, l.origin.of(texts), l.header.of(texts));
     replay_answers::put_load(out, at, a)
 }
 
@@ -78,18 +45,17 @@ fn frame_line(run: &mut [u8], l: FrameLine, texts: &[u8], out: &mut [u8], at: us
     ensures { Makes (framed_load l.container (part_in texts.now l.header) (part_in texts.now l.origin) (attributes_in texts.now l.attributes)) run.old run.new out.old at out.new result }
 {
     let f = l.attributes;
-    frame_put(
+    let a = documents::load_framed(
         run,
         l.container,
-        text(texts, l.origin),
-        text(texts, f.src),
+        l.origin.of(texts),
+        f.src.of(texts),
         marks(f),
-        text(texts, f.allow),
-        text(texts, f.sandbox.text),
-        text(texts, l.header),
-        out,
-        at,
-    )
+        f.allow.of(texts),
+        f.sandbox.text.of(texts),
+        l.header.of(texts),
+    );
+    replay_answers::put_load(out, at, a)
 }
 
 fn unload_line(run: &mut [u8], serial: u32, out: &mut [u8], at: usize) -> usize
@@ -104,7 +70,7 @@ fn ask_line(run: &[u8], l: AskLine, texts: &[u8], out: &mut [u8], at: usize) -> 
     requires { Valid run.now }
     ensures { Says out.old at (answer_text (answer_to (question l.serial l.feature (part_in texts.now l.origin)) (view run.now))) out.new result }
 {
-    let a = documents::question(run, l.serial, l.feature, text(texts, l.origin));
+    let a = documents::question(run, l.serial, l.feature, l.origin.of(texts));
     replay_answers::put_question(out, at, a)
 }
 
@@ -131,26 +97,8 @@ fn beneath_line(run: &[u8], l: BeneathLine, out: &mut [u8], at: usize) -> usize
     ensures { Says out.old at (line_answer (beneath l.serial l.room) (view run.now)) out.new result }
 {
     let mut places = [0u32; DOCUMENTS];
-    let n = least(l.room as usize, DOCUMENTS);
+    let n = (l.room as usize).min(DOCUMENTS);
     list_into(run, l.serial, &mut places[..n], out, at)
-}
-
-// A forecast, and its answer put.
-fn forecast_put(
-    run: &[u8],
-    container: u32,
-    src: &[u8],
-    marks: FrameMarks,
-    allow: &[u8],
-    sandbox: &[u8],
-    out: &mut [u8],
-    at: usize,
-) -> usize
-    requires { Valid run.now }
-    ensures { Says out.old at (answer_text (answer_to (forecast_of container (attributes allow.now marks sandbox.now src.now)) (view run.now))) out.new result }
-{
-    let a = documents::forecast(run, container, src, marks, allow, sandbox);
-    replay_answers::put_features(out, at, a)
 }
 
 fn forecast_line(run: &[u8], l: ForecastLine, texts: &[u8], out: &mut [u8], at: usize) -> usize
@@ -158,16 +106,15 @@ fn forecast_line(run: &[u8], l: ForecastLine, texts: &[u8], out: &mut [u8], at: 
     ensures { Says out.old at (answer_text (answer_to (forecast_of l.container (attributes_in texts.now l.attributes)) (view run.now))) out.new result }
 {
     let f = l.attributes;
-    forecast_put(
+    let a = documents::forecast(
         run,
         l.container,
-        text(texts, f.src),
+        f.src.of(texts),
         marks(f),
-        text(texts, f.allow),
-        text(texts, f.sandbox.text),
-        out,
-        at,
-    )
+        f.allow.of(texts),
+        f.sandbox.text.of(texts),
+    );
+    replay_answers::put_features(out, at, a)
 }
 
 // A tidied form in a lent run.
@@ -184,15 +131,18 @@ fn tidy_line(l: TidyLine, texts: &[u8], out: &mut [u8], at: usize) -> usize
     ensures { Says out.old at (tidy_line_text (tidy_answer (part_in texts.now l.header) l.room) (tidied (part_in texts.now l.header))) out.new result }
 {
     let mut form = [0u8; TEXT_BYTES];
-    let n = least(l.room as usize, TEXT_BYTES);
-    tidy_into(text(texts, l.header), &mut form[..n], out, at)
+    let n = (l.room as usize).min(TEXT_BYTES);
+    tidy_into(l.header.of(texts), &mut form[..n], out, at)
 }
 
 // A line's answer, put at a place of a lent run; and the table in its own run.
-pub fn answer(run: &mut [u8], line: Line, texts: &[u8], out: &mut [u8], at: usize) -> usize
+pub fn answer(run: &mut [u8], line: Option<Line>, texts: &[u8], out: &mut [u8], at: usize) -> usize
     requires { Valid run.old }
     ensures { Answers (line_in texts.now line) run.old run.new out.old at out.new result }
 {
+    let Some(line) = line else {
+        return replay_answers::put_bad_line(out, at);
+    };
     match line {
         Line::Top(l) => top_line(run, l, texts, out, at),
         Line::Frame(l) => frame_line(run, l, texts, out, at),
@@ -202,6 +152,5 @@ pub fn answer(run: &mut [u8], line: Line, texts: &[u8], out: &mut [u8], at: usiz
         Line::Beneath(l) => beneath_line(run, l, out, at),
         Line::Forecast(l) => forecast_line(run, l, texts, out, at),
         Line::Tidy(l) => tidy_line(l, texts, out, at),
-        Line::Bad => replay_answers::put_bad_line(out, at),
     }
 }

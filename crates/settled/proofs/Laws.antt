@@ -3,7 +3,7 @@ use mathlib.Core.Path.{◌≡◌, refl}
 use Prim.Native.Nat.{ℕ, suc, ◌*◌, ◌/◌, ◌%◌, ◌≤◌, ◌<◌}
 use mathlib.Core.List.{List, [], ◌∷◌}
 use mathlib.Core.Bool.{true, false}
-use mathlib.Core.Option.{some, none}
+use Rattle.std.specs.Prelude.{Some, None}
 use lib.ListN.{take, drop}
 use borrow.Author.Tests.{le-ltb, lt-ltb}
 use Rattle.ascii.specs.Bytes.{pick}
@@ -20,7 +20,7 @@ module _ (d : List ℕ) (n : ℕ) where
   unfolding declared_in pick
   declared-by h = rw (lt-ltb n feature_count h)
 
-  pub declared-past : feature_count ≤ n → declared_in d n ≡ none
+  pub declared-past : feature_count ≤ n → declared_in d n ≡ None
   unfolding declared_in pick
   declared-past h = rw (le-ltb n feature_count h)
 
@@ -30,19 +30,19 @@ unfolding entry_declares
 entry-marked e l = refl
 
 module _ (es : List SourceExpression) where
-  pub marked-none : marked 0 es ≡ none
+  pub marked-none : marked 0 es ≡ None
   unfolding marked pick
   marked-none = refl
 
-  pub marked_all : marked 1 es ≡ some all
+  pub marked_all : marked 1 es ≡ Some all
   unfolding marked pick
   marked_all = rw (list-star false false es)
 
-  pub marked-list : marked 2 es ≡ some (listed false false es)
+  pub marked-list : marked 2 es ≡ Some (listed false false es)
   unfolding marked pick
   marked-list = rw (list-parts false false es)
 
-  pub marked-self : marked 3 es ≡ some (listed true false es)
+  pub marked-self : marked 3 es ≡ Some (listed true false es)
   unfolding marked pick
   marked-self = rw (list-parts true false es)
 

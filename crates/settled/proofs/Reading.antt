@@ -1,9 +1,10 @@
 -- Settled bytes read, in the terms of the code. Assumes nothing.
+use Rattle.std.specs.Prelude.{Option, None}
 use mathlib.Core.Path.{◌≡◌, refl, ap, ◌∙◌, sym}
 use Prim.Native.Nat.{ℕ, zero, suc, ◌+◌, ◌-◌, ◌*◌, ◌/◌, ◌%◌, ◌≤◌, ◌<◌, min}
 use mathlib.Core.List.{List, [], ◌∷◌}
 use mathlib.Core.Bool.{Bool, true, false, ◌&&◌, ◌||◌}
-use mathlib.Core.Option.{some}
+use Rattle.std.specs.Prelude.{Some}
 use native.Mathlib.Omega.{arith}
 use lib.ListN.{length, get_or, take, drop, length-drop, drop_of_length-le, get_or-eq_default}
 use lib.Seq.{drop-cons, drop-drop, take_all}
@@ -11,84 +12,35 @@ use lib.Dec.{eqb, leb}
 use borrow.Author.Tests.{eq-eqb, ne_eqb, le-ltb, lt-ltb, leb-true, leb-false}
 use Rattle.ascii.specs.Bytes.{pick}
 use Rattle.ascii.specs.Reading.{head_of}
-use Rattle.ascii.specs.Texts.{part_of}
+use Rattle.ascii.specs.Texts.{part_of, part_in}
 use Rattle.ascii.proofs.Reading.{head_in, head-out, place-drop}
 use Rattle.ascii.proofs.Texts.{part-in}
 use Rattle.features.specs.Features.{feature_count}
-use Rattle.origins.specs.Origins.{Origin}
+use Rattle.std.specs.List.{list_any}
+use Rattle.origins.specs.Origins.{Origin, TupleOrigin}
 use Rattle.origins.specs.Origins.Origin.{tuple}
 use Rattle.origins.specs.Expressions.{SourceExpression}
-use Rattle.origins.specs.Matching.{admits, admits_tuple}
-use Rattle.origins.specs.Answers.{expression_by, tuple_by, origin_in}
+use Rattle.origins.specs.Matching.{admits_tuple}
+use Rattle.origins.specs.Answers.{tuple_by, origin_in}
 use Rattle.origins.specs.declared.Scheme.{Scheme}
-use Rattle.origins.specs.declared.Scheme.TheVariants.{Http, Https}
 use Rattle.origins.specs.declared.HostKind.{HostKind}
-use Rattle.origins.specs.declared.HostKind.TheVariants as kind
 use Rattle.origins.specs.declared.PortPart.{PortPart}
-use Rattle.origins.specs.declared.PortPart.TheVariants as port
 use Rattle.origins.specs.declared.ExpressionParts.{ExpressionParts}
-use Rattle.origins.specs.declared.TupleParts.{TupleParts}
 use Rattle.origins.specs.declared.TupleRange.{TupleRange}
 use Rattle.origins.specs.declared.OriginRange.{OriginRange}
 use Rattle.origins.specs.declared.OriginRange.TheVariants as range
 use Rattle.origins.proofs.Laws.{admits-tuple}
 use Rattle.allowlists.specs.Allowlists.{any_admits, some_admits}
 use Rattle.allowlists.specs.Allowlists.Allowlist.{all, listed}
-use Rattle.allowlists.specs.Answers.{admission_as}
-use Rattle.allowlists.specs.declared.Admission.{Admission}
-use Rattle.allowlists.specs.declared.Admission.TheVariants as admission
 use Rattle.allowlists.proofs.Laws.{any-nil, any-cons, some-admits, none-admits, all-admits, listed-admits, list-star, list-parts, sources_fresh, sources-opaque}
 use Rattle.settled.specs.Settled.{entry_bytes, head_bytes, word, word_at, scheme_bits, host_bits, port_bits, parts_of, expressions_from, entry_in, marked, entry_declares, declared_in}
-use Rattle.settled.specs.Answers.{settled_in, rest_from, expression_at, low_next, high_next, list_in, list_by, list_at, IsList}
-use Rattle.settled.specs.declared.SettledExpression.{SettledExpression}
-use Rattle.settled.specs.declared.ExpressionFound.{ExpressionFound}
-use Rattle.settled.specs.declared.ExpressionFound.TheVariants as found
+use Rattle.settled.specs.Answers.{rest_from, expression_at, list_in, list_by, list_at, IsList}
 use Rattle.settled.specs.declared.ListRange.{ListRange}
 use Rattle.settled.specs.declared.ListFound.{ListFound}
 use Rattle.settled.specs.declared.ListFound.TheVariants as list
 use Rattle.settled.proofs.Laws.{from-none}
 
--- bits, test by test
-module _ (b : ℕ) where
-  pub scheme-zero : b ≡ 0 → Http ≡ scheme_bits b
-  unfolding pick
-  scheme-zero e = rw (eq-eqb b 0 e)
-
-  pub scheme-other : (b ≡ 0 → ⊥) → Https ≡ scheme_bits b
-  unfolding pick
-  scheme-other e = rw (ne_eqb b 0 e)
-
-  pub host-zero : b ≡ 0 → kind.None ≡ host_bits b
-  unfolding pick
-  host-zero e = rw (eq-eqb b 0 e)
-
-  module _ (z : b ≡ 0 → ⊥) where
-    pub host-one : b ≡ 1 → kind.Any ≡ host_bits b
-    unfolding pick
-    host-one e = rw (ne_eqb b 0 z, eq-eqb b 1 e)
-
-    pub host-two : (b ≡ 1 → ⊥) → b ≡ 2 → kind.Exact ≡ host_bits b
-    unfolding pick
-    host-two y e = rw (ne_eqb b 0 z, ne_eqb b 1 y, eq-eqb b 2 e)
-
-    pub host-other : (b ≡ 1 → ⊥) → (b ≡ 2 → ⊥) → kind.Subdomains ≡ host_bits b
-    unfolding pick
-    host-other y e = rw (ne_eqb b 0 z, ne_eqb b 1 y, ne_eqb b 2 e)
-
-module _ (b p : ℕ) where
-  pub port-zero : b ≡ 0 → port.Default ≡ port_bits b p
-  unfolding pick
-  port-zero e = rw (eq-eqb b 0 e)
-
-  pub port-one : (b ≡ 0 → ⊥) → b ≡ 1 → port.Any ≡ port_bits b p
-  unfolding pick
-  port-one z e = rw (ne_eqb b 0 z, eq-eqb b 1 e)
-
-  pub port-other : (b ≡ 0 → ⊥) → (b ≡ 1 → ⊥) → port.Number p ≡ port_bits b p
-  unfolding pick
-  port-other z e = rw (ne_eqb b 0 z, ne_eqb b 1 e)
-
-pub parts_are : (k p : ℕ) (s : Scheme) (h : HostKind) (q : PortPart) → s ≡ scheme_bits (k % 2) → h ≡ host_bits (k / 2 % 4) → q ≡ port_bits (k / 8) p → record { scheme = s; host = h; port = q } ≡ parts_of k p
+pub parts_are : (k p : ℕ) (s : Scheme) (h : Option HostKind) (q : PortPart) → s ≡ scheme_bits (k % 2) → h ≡ host_bits (k / 2 % 4) → q ≡ port_bits (k / 8) p → record { scheme = s; host = h; port = q } ≡ parts_of k p
 unfolding parts_of
 parts_are k p s h q e f g = rw (e, f, g)
 
@@ -153,20 +105,20 @@ cut-drop s q n e h = go (leb (q + n) (length s)) refl ∙ sym (drop-drop n q s)
 
 -- the expression at a place
 module _ (s : List ℕ) (p : ℕ) where
-  at-end : length s < p + 4 → found.None ≡ expression_at s p
+  at-end : length s < p + 4 → None ≡ expression_at s p
   unfolding expression_at pick
   at-end h = rw (lt-ltb (length s) (p + 4) h)
 
   end-says : length s < p + 4 → (i : ℕ) → expressions_from (suc i) (drop p s) ≡ []
   end-says h i = few (suc i) (drop p s) (omega (arith, length-drop p s))
 
-  pub at-past : length s < p → found.None ≡ expression_at s p
+  pub at-past : length s < p → None ≡ expression_at s p
   at-past h = at-end (omega arith)
 
   pub past-says : length s < p → (i : ℕ) → expressions_from (suc i) (drop p s) ≡ []
   past-says h i = end-says (omega arith) i
 
-  pub at-few : length s - p < 4 → found.None ≡ expression_at s p
+  pub at-few : length s - p < 4 → None ≡ expression_at s p
   at-few h = at-end (omega arith)
 
   pub few-says : length s - p < 4 → (i : ℕ) → expressions_from (suc i) (drop p s) ≡ []
@@ -179,54 +131,32 @@ module _ (s : List ℕ) (p : ℕ) where
     word-there : w ≡ word_at s (p + 2)
     word-there = let z : p + 2 + 1 ≡ p + 3 = omega arith in rw z v
 
-    pub at_some : found.Expression (record { parts = parts; from = p + 4; to = to }) ≡ expression_at s p
+    pub at_some : Some (record { parts = parts; host = record { from = p + 4; to = to } }) ≡ expression_at s p
     unfolding expression_at pick
     at_some = rw (le-ltb (length s) (p + 4) h, ← word-there, q, e, u)
 
-    pub some-says : (i : ℕ) → expressions_from (suc i) (drop p s) ≡ rest_from i s (found.Expression (record { parts = parts; from = p + 4; to = to }))
+    pub some-says : (i : ℕ) → expressions_from (suc i) (drop p s) ≡ rest_from i s (Some (record { parts = parts; host = record { from = p + 4; to = to } }))
     unfolding expressions_from
     some-says i =
         let g : to ≡ min (p + 4 + get_or s (p + 1) 0) (length s) = rw u at e in
         let c : part_of s (p + 4) to ≡ take (get_or s (p + 1) 0) (drop (p + 4) s) = sym (part-in s (p + 4) to (omega (arith, h)) (omega arith)) ∙ cut-take s (p + 4) (get_or s (p + 1) 0) to g h in
         rw (four s p h, c, cut-drop s (p + 4) (get_or s (p + 1) 0) to g, q, v)
 
--- where the next expression starts
-pub low-next : (r : ExpressionFound) (e : SettledExpression) → r ≡ found.Expression e → low_next r ≡ e.to
-low-next r e k = rw k
+-- no expression, where none is asked for or none is there
+pub none-asked : (n : ℕ) (l : List ℕ) → n ≡ 0 → expressions_from n l ≡ []
+none-asked n l e = rw e (from-none l)
 
-pub high-next : (r : ExpressionFound) (e : SettledExpression) → r ≡ found.Expression e → high_next r ≡ e.to
-high-next r e k = rw k
+pub none-there : (n : ℕ) (l : List ℕ) → (n ≡ 0 → ⊥) → ((i : ℕ) → expressions_from (suc i) l ≡ []) → expressions_from n l ≡ []
+none-there n l z h = let e : n ≡ suc (n - 1) = omega arith in rw e (h (n - 1))
 
--- a walk that looks for an expression that admits a tuple origin
-module _ (d : List ℕ) (o : TupleParts) (h : List ℕ) (R : Bool) (p left : ℕ) (so_far : any_admits (expressions_from left (drop p d)) (tuple (tuple_by o h)) ≡ R) where
-  pub walk_end : left ≤ 0 → false ≡ R
-  walk_end g = let z : left ≡ 0 = omega arith in sym (any-nil (tuple (tuple_by o h))) ∙ (rw (z, from-none (drop p d)) at so_far)
-
-  module _ (f : ExpressionFound) (is : (i : ℕ) → expressions_from (suc i) (drop p d) ≡ rest_from i d f) (more : 0 < left) where
-    here : any_admits (rest_from (left - 1) d f) (tuple (tuple_by o h)) ≡ R
-    here =
-        let z : left ≡ suc (left - 1) = omega arith in
-        let y : any_admits (expressions_from (suc (left - 1)) (drop p d)) (tuple (tuple_by o h)) ≡ R = ap (λ (i : ℕ). any_admits (expressions_from i (drop p d)) (tuple (tuple_by o h))) (sym z) ∙ so_far in
-        rw (is (left - 1)) at y
-
-    pub walk_none : f ≡ found.None → false ≡ R
-    walk_none k = sym (any-nil (tuple (tuple_by o h))) ∙ (rw k at here)
-
-    module _ (e : SettledExpression) (k : f ≡ found.Expression e) (x : List ℕ) (part : x ≡ part_of d e.from e.to) (b : Bool) (v : b ≡ admits_tuple (expression_by e.parts x) (tuple_by o h)) where
-      turn : b || any_admits (expressions_from (left - 1) (drop e.to d)) (tuple (tuple_by o h)) ≡ R
-      turn =
-          let a : admits (settled_in d e) (tuple (tuple_by o h)) ≡ b = admits-tuple (settled_in d e) (tuple_by o h) ∙ (rw (← part) (sym v)) in
-          rw (← a) (sym (any-cons (settled_in d e) (expressions_from (left - 1) (drop e.to d)) (tuple (tuple_by o h))) ∙ (rw k at here))
-
-      pub walk-hit : b ≡ true → true ≡ R
-      walk-hit t = rw t at turn
-
-      pub walk-on : b ≡ false → any_admits (expressions_from (left - 1) (drop e.to d)) (tuple (tuple_by o h)) ≡ R
-      walk-on t = rw t at turn
+-- a list admits a tuple origin where one of its expressions does
+pub any-listed : (es : List SourceExpression) (o : TupleOrigin) → any_admits es (tuple o) ≡ list_any (λ e. admits_tuple e o) es
+any-listed [] o = any-nil (tuple o)
+any-listed (e ∷ es) o = any-cons e es (tuple o) ∙ rw (admits-tuple e o, any-listed es o)
 
 -- a list's expressions, by the origin that is asked about
 module _ (es : List SourceExpression) (t : List ℕ) (o : OriginRange) where
-  pub ask-tuple : (r : TupleRange) (h : List ℕ) (R : Bool) → o ≡ range.Tuple r → h ≡ part_of t r.from r.to → R ≡ any_admits es (tuple (tuple_by (record { scheme = r.scheme; port = r.port }) h)) → R ≡ any_admits es (origin_in t o)
+  pub ask-tuple : (r : TupleRange) (h : List ℕ) (R : Bool) → o ≡ range.Tuple r → h ≡ part_in t r.host → R ≡ any_admits es (tuple (tuple_by r.parts h)) → R ≡ any_admits es (origin_in t o)
   ask-tuple r h R e m w = rw (e, ← m) w
 
   pub ask-opaque : (n : ℕ) → o ≡ range.Opaque n → false ≡ any_admits es (origin_in t o)
@@ -237,7 +167,7 @@ module _ (es : List SourceExpression) (t : List ℕ) (o : OriginRange) where
 
 -- a feature's list, by its mark
 module _ (d : List ℕ) (n : ℕ) where
-  pub list-none : feature_count ≤ n → IsList d n list.Undeclared
+  pub list-none : feature_count ≤ n → IsList d n None
   unfolding declared_in list_at pick
   list-none h = record { says = rw (le-ltb n feature_count h); is = rw (le-ltb n feature_count h) }
 
@@ -245,47 +175,47 @@ module _ (d : List ℕ) (n : ℕ) where
     marked-at : get_or d (entry_bytes * n) 0 ≡ mark
     marked-at = sym (byte-at d (entry_bytes * n)) ∙ sym m
 
-    pub list-undeclared : mark ≡ 0 → IsList d n list.Undeclared
+    pub list-undeclared : mark ≡ 0 → IsList d n None
     unfolding declared_in entry_declares marked list_at list_by pick
     list-undeclared z = record { says = rw (lt-ltb n feature_count h, marked-at, eq-eqb mark 0 z); is = rw (lt-ltb n feature_count h, marked-at, eq-eqb mark 0 z) }
 
     module _ (z : mark ≡ 0 → ⊥) where
-      pub list_all : mark ≡ 1 → IsList d n list.All
+      pub list_all : mark ≡ 1 → IsList d n (Some list.All)
       unfolding declared_in entry_declares marked list_at list_by pick
       list_all u =
           record {
-            says = rw (lt-ltb n feature_count h, marked-at, ne_eqb mark 0 z, eq-eqb mark 1 u) (ap some (list-star (eqb mark 3) false (expressions_from (entry_in d (entry_bytes * n)).count (drop (entry_in d (entry_bytes * n)).start (drop head_bytes d)))));
+            says = rw (lt-ltb n feature_count h, marked-at, ne_eqb mark 0 z, eq-eqb mark 1 u) (ap Some (list-star (eqb mark 3) false (expressions_from (entry_in d (entry_bytes * n)).count (drop (entry_in d (entry_bytes * n)).start (drop head_bytes d)))));
             is = rw (lt-ltb n feature_count h, marked-at, ne_eqb mark 0 z, eq-eqb mark 1 u);
           }
 
-      pub list-listed : (mark ≡ 1 → ⊥) → (a b : ℕ) → a ≡ word_at d (entry_bytes * n + 1) → b ≡ word_at d (entry_bytes * n + 3) → IsList d n (list.Listed (record { own = eqb mark 3; at = head_bytes + a; count = b }))
+      pub list-listed : (mark ≡ 1 → ⊥) → (a b : ℕ) → a ≡ word_at d (entry_bytes * n + 1) → b ≡ word_at d (entry_bytes * n + 3) → IsList d n (Some (list.Listed (record { own = eqb mark 3; at = head_bytes + a; count = b })))
       unfolding declared_in entry_declares marked list_at list_by pick
       list-listed u a b e f =
           record {
-            says = rw (lt-ltb n feature_count h, marked-at, ne_eqb mark 0 z, ne_eqb mark 1 u, ← e, ← f, drop-drop a head_bytes d) (ap some (list-parts (eqb mark 3) false (expressions_from b (drop (head_bytes + a) d))));
+            says = rw (lt-ltb n feature_count h, marked-at, ne_eqb mark 0 z, ne_eqb mark 1 u, ← e, ← f, drop-drop a head_bytes d) (ap Some (list-parts (eqb mark 3) false (expressions_from b (drop (head_bytes + a) d))));
             is = rw (lt-ltb n feature_count h, marked-at, ne_eqb mark 0 z, ne_eqb mark 1 u, e, f);
           }
 
 -- whether it admits an origin
-module _ (d : List ℕ) (n : ℕ) (same : Bool) (o : Origin) (r : ListFound) (is : declared_in d n ≡ list_in d r) where
-  pub admits-undeclared : r ≡ list.Undeclared → admission.NoList ≡ admission_as (some_admits (declared_in d n) same false o)
+module _ (d : List ℕ) (n : ℕ) (same : Bool) (o : Origin) (r : Option ListFound) (is : declared_in d n ≡ list_in d r) where
+  pub admits-undeclared : r ≡ None → None ≡ some_admits (declared_in d n) same false o
   admits-undeclared k = rw (is, k, none-admits same false o)
 
-  pub admits-all : r ≡ list.All → admission.Admitted ≡ admission_as (some_admits (declared_in d n) same false o)
-  admits-all k = rw (is, k, some-admits all same false o, all-admits same false o)
+  pub admits-all : (i : ListFound) → r ≡ Some i → i ≡ list.All → (Some true) ≡ some_admits (declared_in d n) same false o
+  admits-all i k j = rw (is, k, j, some-admits all same false o, all-admits same false o)
 
-  module _ (l : ListRange) (k : r ≡ list.Listed l) where
-    parts : some_admits (declared_in d n) same false o ≡ some (l.own && same || false || any_admits (expressions_from l.count (drop l.at d)) o)
-    parts = rw (is, k, some-admits (listed l.own false (expressions_from l.count (drop l.at d))) same false o) (ap some (listed-admits l.own false (expressions_from l.count (drop l.at d)) same false o))
+  module _ (l : ListRange) (i : ListFound) (k : r ≡ Some i) (j : i ≡ list.Listed l) where
+    parts : some_admits (declared_in d n) same false o ≡ Some (l.own && same || false || any_admits (expressions_from l.count (drop l.at d)) o)
+    parts = rw (is, k, j, some-admits (listed l.own false (expressions_from l.count (drop l.at d))) same false o) (ap Some (listed-admits l.own false (expressions_from l.count (drop l.at d)) same false o))
 
-    pub admits-own : l.own && same ≡ true → admission.Admitted ≡ admission_as (some_admits (declared_in d n) same false o)
+    pub admits-own : l.own && same ≡ true → (Some true) ≡ some_admits (declared_in d n) same false o
     admits-own t = rw (parts, t)
 
-    pub admits-listed : l.own && same ≡ false → (b : Bool) (a : Admission) → b ≡ any_admits (expressions_from l.count (drop l.at d)) o → a ≡ admission_as (some b) → a ≡ admission_as (some_admits (declared_in d n) same false o)
-    admits-listed t b a e w = rw (parts, t, ← e) w
+    pub admits-listed : l.own && same ≡ false → (b : Bool) → b ≡ any_admits (expressions_from l.count (drop l.at d)) o → Some b ≡ some_admits (declared_in d n) same false o
+    admits-listed t b e = rw (parts, t, ← e)
 
 -- a document at a place of a run
-pub at_place : (s : List ℕ) (at p n : ℕ) (same : Bool) (o : Origin) (r : Admission) → p ≡ min at (length s) → r ≡ admission_as (some_admits (declared_in (take (length s - p) (drop p s)) n) same false o) → r ≡ admission_as (some_admits (declared_in (drop at s) n) same false o)
+pub at_place : (s : List ℕ) (at p n : ℕ) (same : Bool) (o : Origin) (r : Option Bool) → p ≡ min at (length s) → r ≡ some_admits (declared_in (take (length s - p) (drop p s)) n) same false o → r ≡ some_admits (declared_in (drop at s) n) same false o
 at_place s at p n same o r e h =
     let a : take (length s - p) (drop p s) ≡ drop p s = take_all (length s - p) (drop p s) (omega (arith, length-drop p s)) in
     let b : drop p s ≡ drop at s = place-drop s at p e in

@@ -2,7 +2,7 @@
 -- A head of five bytes for each feature: a mark, where its list starts past the head, and how many expressions it has, each in two bytes.
 -- Past the head the expressions of the lists: a kind, the length of the host, the port in two bytes, and the host in lower case.
 use Rattle.std.specs.Prelude.{ℕ, zero, suc, ◌+◌, ◌*◌, ◌/◌, ◌%◌, List, [], ◌∷◌, false, get_or, take, drop, eqb, ltb}
-use Rattle.std.proofs.Math.Option.{Option, some, none}
+use Rattle.std.specs.Prelude.{Option, Some, None}
 use Rattle.ascii.specs.Bytes.{pick}
 use Rattle.features.specs.Features.{feature_count}
 use Rattle.origins.specs.Expressions.{SourceExpression}
@@ -34,8 +34,8 @@ word_at d i = word (get_or d i 0) (get_or d (i + 1) 0)
 abbrev pub scheme_bits : ℕ → Scheme
 scheme_bits k = pick (eqb k 0) Http Https
 
-abbrev pub host_bits : ℕ → HostKind
-host_bits k = pick (eqb k 0) kind.None (pick (eqb k 1) kind.Any (pick (eqb k 2) kind.Exact kind.Subdomains))
+abbrev pub host_bits : ℕ → Option HostKind
+host_bits k = pick (eqb k 0) None (Some (pick (eqb k 1) kind.Any (pick (eqb k 2) kind.Exact kind.Subdomains)))
 
 abbrev pub port_bits : ℕ → ℕ → PortPart
 port_bits k p = pick (eqb k 0) port.Default (pick (eqb k 1) port.Any (port.Number p))
@@ -64,7 +64,7 @@ entry_in d i = record { mark = get_or d i 0; start = word_at d (i + 1); count = 
 
 -- a mark and a list's expressions: 0 is undeclared, 1 is `*`, 2 a list, 3 a list with `self`; a header's list has no src-origin
 unfoldable pub marked : ℕ → List SourceExpression → Option Allowlist
-marked m es = pick (eqb m 0) none (some (allowlist (eqb m 1) (eqb m 3) false es))
+marked m es = pick (eqb m 0) None (Some (allowlist (eqb m 1) (eqb m 3) false es))
 
 -- what an entry declares, over the bytes past the head
 unfoldable pub entry_declares : Entry → List ℕ → Option Allowlist
@@ -72,4 +72,4 @@ entry_declares e l = marked e.mark (expressions_from e.count (drop e.start l))
 
 -- what a document's bytes say for a feature; a number of none is undeclared
 unfoldable pub declared_in : List ℕ → ℕ → Option Allowlist
-declared_in d n = pick (ltb n feature_count) (entry_declares (entry_in d (entry_bytes * n)) (drop head_bytes d)) none
+declared_in d n = pick (ltb n feature_count) (entry_declares (entry_in d (entry_bytes * n)) (drop head_bytes d)) None

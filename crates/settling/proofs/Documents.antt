@@ -3,7 +3,7 @@ use mathlib.Core.Path.{◌≡◌, refl, ap, ◌∙◌, sym}
 use Prim.Native.Nat.{ℕ, ◌+◌, ◌*◌, ◌/◌, ◌%◌, ◌-◌, ◌≤◌, ◌<◌}
 use mathlib.Core.List.{List, [], ◌∷◌, ◌++◌, map, append_assoc}
 use mathlib.Core.Bool.{Bool, true, false}
-use mathlib.Core.Option.{Option, some, none}
+use Rattle.std.specs.Prelude.{Option, Some, None}
 use native.Mathlib.Omega.{arith}
 use lib.ListN.{length, get_or, take, drop, length-append, length-drop, length-replicate, get_or-replicate, get_or-append}
 use lib.Seq.{drop_at, get_or-take, get_or-drop, get_or-append-add, length-take-le}
@@ -102,13 +102,13 @@ module _ (head : List ℕ) (n mark start count : ℕ) (h : n < feature_count) (g
           rw w at (rw z at (entry_past i))
 
 -- the mark and the expressions of a value say what it declares
-items-marked : (xs : List Item) → marked (mark_of (some (items_list xs))) (sources_of (map item_meaning xs)) ≡ some (items_list xs)
+items-marked : (xs : List Item) → marked (mark_of (Some (items_list xs))) (sources_of (map item_meaning xs)) ≡ Some (items_list xs)
 items-marked xs = go (map item_meaning xs) (no_src xs)
   where
-    go : (ms : List Meaning) → has_src ms ≡ false → marked (mark_of (some (allowlist_of ms))) (sources_of ms) ≡ some (allowlist_of ms)
+    go : (ms : List Meaning) → has_src ms ≡ false → marked (mark_of (Some (allowlist_of ms))) (sources_of ms) ≡ Some (allowlist_of ms)
     go ms s = by (has_star ms) refl (has_self ms) refl
       where
-        by : (a : Bool) → has_star ms ≡ a → (b : Bool) → has_self ms ≡ b → marked (mark_of (some (allowlist_of ms))) (sources_of ms) ≡ some (allowlist_of ms)
+        by : (a : Bool) → has_star ms ≡ a → (b : Bool) → has_self ms ≡ b → marked (mark_of (Some (allowlist_of ms))) (sources_of ms) ≡ Some (allowlist_of ms)
         by true e b f = unfold mark_of in (rw (star-all ms e) (marked_all (sources_of ms)))
         by false e true f = unfold mark_of in (rw (no-star ms e, f, s) (marked-self (sources_of ms)))
         by false e false f = unfold mark_of in (rw (no-star ms e, f, s) (marked-list (sources_of ms)))
@@ -117,30 +117,30 @@ value-marked : (v : Value) → marked (mark_of (value_declares v)) (value_source
 value-marked (one x) = rw (value-one x) (go (lone_declares (item_meaning x)) (lone-cases (item_meaning x)))
   where
     go : (o : Option Allowlist) → Lone (item_meaning x) o → marked (mark_of o) (sources_of (item_meaning x ∷ [])) ≡ o
-    go none (ignored k) = unfold mark_of in (marked-none (sources_of (item_meaning x ∷ [])))
-    go (some l) counted = items-marked (x ∷ [])
+    go None (ignored k) = unfold mark_of in (marked-none (sources_of (item_meaning x ∷ [])))
+    go (Some l) counted = items-marked (x ∷ [])
 value-marked (many xs) = rw (value-many xs) (items-marked xs)
 
 -- a document shows a value for a feature, if there is one, whatever follows it
 record Shows (x : SettledDocument) (n : ℕ) (v : Option Value) : Type 0 where
   long : length x.head ≡ head_bytes
-  says : (y : List ℕ) → entry_declares (entry_in x.head (entry_bytes * n)) (x.body ++ y) ≡ last_declares (some v)
+  says : (y : List ℕ) → entry_declares (entry_in x.head (entry_bytes * n)) (x.body ++ y) ≡ last_declares (Some v)
 
-zero-shows : (x : SettledDocument) (n : ℕ) → length x.head ≡ head_bytes → get_or x.head (entry_bytes * n) 0 ≡ 0 → Shows x n none
+zero-shows : (x : SettledDocument) (n : ℕ) → length x.head ≡ head_bytes → get_or x.head (entry_bytes * n) 0 ≡ 0 → Shows x n None
 zero-shows x n h z =
     record {
       long = h;
       says = λ y. entry-marked (entry_in x.head (entry_bytes * n)) (x.body ++ y) ∙ (rw z (marked-none _ ∙ sym last_none));
     }
 
-empty-shows : (n : ℕ) → n < feature_count → Shows empty_document n none
+empty-shows : (n : ℕ) → n < feature_count → Shows empty_document n None
 empty-shows n h = zero-shows empty_document n (length-replicate {A = ℕ} head_bytes 0) (get_or-replicate {A = ℕ} head_bytes (entry_bytes * n) 0 0 (omega arith))
 
 module _ (x : SettledDocument) (n : ℕ) (v : Option Value) (h : n < feature_count) (s : Shows x n v) (m : Plain) where
   entry : List ℕ
   entry = entry_text (mark_of (value_declares m.value)) (length x.body) (length (value_sources m.value))
 
-  here : feature_of m.key ≡ some n → Shows (with_value x (some n) m.value) n (later (name_of n) v m)
+  here : feature_of m.key ≡ Some n → Shows (with_value x (Some n) m.value) n (later (name_of n) v m)
   unfolding with_value
   here e =
       let k : m.key ≡ name_of n = found_name m.key n e in
@@ -155,7 +155,7 @@ module _ (x : SettledDocument) (n : ℕ) (v : Option Value) (h : n < feature_cou
             ∙ (rw (drop_at x.body (t ++ y) (length x.body) refl, list_back (value_sources m.value) y) (value-marked m.value))));
       }
 
-  there : (k : ℕ) → feature_of m.key ≡ some k → (n ≡ k → ⊥) → Shows (with_value x (some k) m.value) n (later (name_of n) v m)
+  there : (k : ℕ) → feature_of m.key ≡ Some k → (n ≡ k → ⊥) → Shows (with_value x (Some k) m.value) n (later (name_of n) v m)
   unfolding with_value
   there k e d =
       let b : k < feature_count = found_below m.key k e in
@@ -169,7 +169,7 @@ module _ (x : SettledDocument) (n : ℕ) (v : Option Value) (h : n < feature_cou
             (ap (λ (z : Entry). entry_declares z (x.body ++ (t ++ y))) (entry_other x.head k (mark_of (value_declares m.value)) (length x.body) (length (value_sources m.value)) b s.long n d) ∙ s.says (t ++ y));
       }
 
-  unnamed : feature_of m.key ≡ none → Shows (with_value x none m.value) n (later (name_of n) v m)
+  unnamed : feature_of m.key ≡ None → Shows (with_value x None m.value) n (later (name_of n) v m)
   unfolding with_value
   unnamed e = rw (later-other (name_of n) v m (miss (same_bytes m.key (name_of n)) refl)) s
     where
@@ -181,11 +181,11 @@ module _ (x : SettledDocument) (n : ℕ) (v : Option Value) (h : n < feature_cou
   member-shows = go (feature_of m.key) refl
     where
       go : (o : Option ℕ) → feature_of m.key ≡ o → Shows (with_value x o m.value) n (later (name_of n) v m)
-      go none e = unnamed e
-      go (some k) e = by (eqb n k) refl
+      go None e = unnamed e
+      go (Some k) e = by (eqb n k) refl
         where
-          by : (b : Bool) → eqb n k ≡ b → Shows (with_value x (some k) m.value) n (later (name_of n) v m)
-          by true u = let z : n ≡ k = eqb-true n k u in rw (← z) (here (e ∙ ap some (sym z)))
+          by : (b : Bool) → eqb n k ≡ b → Shows (with_value x (Some k) m.value) n (later (name_of n) v m)
+          by true u = let z : n ≡ k = eqb-true n k u in rw (← z) (here (e ∙ ap Some (sym z)))
           by false u = there k e (eqb-false n k u)
 
 members-show : (n : ℕ) → n < feature_count → (ms : List Plain) (x : SettledDocument) (v : Option Value) → Shows x n v → Shows (into with_member x ms) n (into (later (name_of n)) v ms)
@@ -202,12 +202,12 @@ record Says (x : SettledDocument) (s : List ℕ) (n : ℕ) : Type 0 where
 document-says : (s : List ℕ) (n : ℕ) → n < feature_count → Says (document_of (members s)) s n
 document-says s n h = go (members s) refl
   where
-    shows : (x : SettledDocument) (v : Option Value) → last_value_in (name_of n) (members s) ≡ some v → Shows x n v → Says x s n
+    shows : (x : SettledDocument) (v : Option Value) → last_value_in (name_of n) (members s) ≡ Some v → Shows x n v → Says x s n
     shows x v e w = record { long = w.long; says = λ y. w.says y ∙ (ap last_declares (sym e) ∙ sym (declares-last s n)) }
 
     go : (d : Option (List Plain)) → members s ≡ d → Says (document_of d) s n
-    go (some ms) e = unfold document_of in (shows (into with_member empty_document ms) (into (later (name_of n)) none ms) (ap (last_value_in (name_of n)) e ∙ last-fold (name_of n) ms) (members-show n h ms empty_document none (empty-shows n h)))
-    go none e =
+    go (Some ms) e = unfold document_of in (shows (into with_member empty_document ms) (into (later (name_of n)) None ms) (ap (last_value_in (name_of n)) e ∙ last-fold (name_of n) ms) (members-show n h ms empty_document None (empty-shows n h)))
+    go None e =
         let w = empty-shows n h in
         unfold document_of in (record { long = w.long; says = λ y. w.says y ∙ (last_none ∙ (sym last-malformed ∙ (ap last_declares (sym (ap (last_value_in (name_of n)) e ∙ last-of-none (name_of n))) ∙ sym (declares-last s n)))) })
 

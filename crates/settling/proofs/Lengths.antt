@@ -2,7 +2,7 @@
 use mathlib.Core.Path.{◌≡◌, refl}
 use Prim.Native.Nat.{ℕ, ◌+◌, ◌≤◌}
 use mathlib.Core.List.{List, [], ◌∷◌}
-use mathlib.Core.Option.{Option, some, none}
+use Rattle.std.specs.Prelude.{Option, Some, None}
 use native.Mathlib.Omega.{arith}
 use lib.ListN.{length, length-append}
 use Rattle.features.specs.Features.{feature_of}
@@ -18,8 +18,8 @@ use Rattle.settling.proofs.Documents.{document-long}
 
 value-bytes : (d : SettledDocument) (f : Option ℕ) (v : Value) → length (with_value d f v).body ≤ length d.body + items_bytes (value_items v)
 unfolding with_value
-value-bytes d none v = omega arith
-value-bytes d (some n) v = omega (arith, length-append d.body (expressions_bytes (value_sources v)), value-fits v)
+value-bytes d None v = omega arith
+value-bytes d (Some n) v = omega (arith, length-append d.body (expressions_bytes (value_sources v)), value-fits v)
 
 into-bytes : (ms : List Plain) (d : SettledDocument) → length (into with_member d ms).body ≤ length d.body + plain_bytes ms
 into-bytes [] d = rw (into-none with_member d) (omega arith)
@@ -29,8 +29,8 @@ into-bytes (m ∷ ms) d =
 
 body_bytes : (s : List ℕ) (d : Option (List Plain)) → members s ≡ d → length (document_of d).body ≤ length s
 unfolding document_of
-body_bytes s (some ms) e = omega (arith, into-bytes ms empty_document, members-bytes s ms e)
-body_bytes s none e = omega arith
+body_bytes s (Some ms) e = omega (arith, into-bytes ms empty_document, members-bytes s ms e)
+body_bytes s None e = omega arith
 
 pub settled-most : (s : List ℕ) → length (settled_bytes s) ≤ head_bytes + length s
 unfolding settled_bytes

@@ -3,12 +3,12 @@ use mathlib.Core.Path.{◌≡◌, refl, ap, ◌∙◌, sym}
 use Prim.Native.Nat.{ℕ, ◌+◌, ◌≤◌}
 use mathlib.Core.List.{List, [], ◌∷◌, ◌++◌, map, append_assoc, append-nil}
 use mathlib.Core.Bool.{Bool, true, false, not, ◌&&◌, ◌||◌}
-use mathlib.Core.Option.{Option, some, none}
+use Rattle.std.specs.Prelude.{Option, Some, None}
 use native.Mathlib.Omega.{arith}
 use lib.ListN.{length, length-append}
 use lib.Dec.{eqb}
 use Rattle.ascii.specs.Bytes.{pick}
-use Rattle.ascii.specs.Texts.{part_of}
+use Rattle.ascii.specs.Texts.{part_in}
 use Rattle.ascii.proofs.Bytes.{or-false, or-true}
 use Rattle.ascii.proofs.Clash.{clash}
 use Rattle.origins.specs.Expressions.{HostPart, SourceExpression}
@@ -24,12 +24,8 @@ use Rattle.items.specs.Found.{item_in}
 use Rattle.items.specs.declared.ItemFound.{ItemFound}
 use Rattle.items.specs.declared.ItemRange.{ItemRange}
 use Rattle.dictionaries.specs.Lookup.{cursor_at, items_from, value_in}
-use Rattle.dictionaries.specs.declared.ListItem.{ListItem}
-use Rattle.dictionaries.specs.declared.ListItem.TheVariants as list
 use Rattle.dictionaries.specs.declared.MemberValue.{MemberValue}
-use Rattle.dictionaries.specs.declared.MemberValue.TheVariants as member
-use Rattle.dictionaries.specs.declared.MemberItem.{MemberItem}
-use Rattle.dictionaries.specs.declared.MemberList.{MemberList}
+use Rattle.dictionaries.specs.declared.ValueRange.TheVariants as range_of
 use Rattle.dictionaries.proofs.Laws.{items-item, items-end, value-item, value-list}
 use Rattle.allowlists.specs.Allowlists.{Allowlist, Meaning, is_star, is_self, with_source, has_star, has_self, sources_of, allowlist_of}
 use Rattle.allowlists.specs.Allowlists.Meaning.{star, self, src, source, nothing}
@@ -63,24 +59,24 @@ good-packs : (e : SourceExpression) → GoodExpression e → Packable e
 good-packs e g = record { host = good-host e.host e.port g.host; port = good-port e.port g.port }
 
 -- a meaning that adds no expression
-put-nothing : (x : Meaning) (l : List ℕ) (n : Listed) (a b : Bool) → with_source x [] ≡ [] → a ≡ n.all || is_star x → b ≡ n.own || is_self x → ItemPut x l n l (record { to = n.to; count = n.count; all = a; own = b })
-put-nothing x l n a b e f g = record { wrote = rw (e, no_bytes) (wrote_none l n.to); count = omega (arith, ap length e); all = f; own = g }
+put-nothing : (x : Meaning) (l : List ℕ) (n : Listed) (a b : Bool) → with_source x [] ≡ [] → a ≡ n.all || is_star x → b ≡ n.own || is_self x → ItemPut x l n l (record { written = n.written; all = a; own = b })
+put-nothing x l n a b e f g = record { wrote = rw (e, no_bytes) (wrote_none l n.written.to); count = omega (arith, ap length e); all = f; own = g }
 
 -- an item, by its meaning
-module _ (s : List ℕ) (p : ItemRange) (r : MeaningRange) (h : r ≡ meaning_as (item_meaning (item_in s p))) where
-  pub item-all : (l : List ℕ) (n : Listed) → r ≡ range.All → ItemPut (item_meaning (item_in s p)) l n l (record { to = n.to; count = n.count; all = true; own = n.own })
+module _ (s : List ℕ) (p : ItemRange) (r : Option MeaningRange) (h : r ≡ meaning_as (item_meaning (item_in s p))) where
+  pub item-all : (l : List ℕ) (n : Listed) → r ≡ Some range.All → ItemPut (item_meaning (item_in s p)) l n l (record { written = n.written; all = true; own = n.own })
   item-all l n k = rw (told-star (item_meaning (item_in s p)) r h k) (put-nothing star l n true n.own (with-star []) (sym (or-true n.all)) (sym (or-false n.own)))
 
-  pub item-self : (l : List ℕ) (n : Listed) → r ≡ range.SelfOrigin → ItemPut (item_meaning (item_in s p)) l n l (record { to = n.to; count = n.count; all = n.all; own = true })
+  pub item-self : (l : List ℕ) (n : Listed) → r ≡ Some range.SelfOrigin → ItemPut (item_meaning (item_in s p)) l n l (record { written = n.written; all = n.all; own = true })
   item-self l n k = rw (told-self (item_meaning (item_in s p)) r h k) (put-nothing self l n n.all true (with-self []) (sym (or-false n.all)) (sym (or-true n.own)))
 
-  pub item-src : (l : List ℕ) (n : Listed) → r ≡ range.SrcOrigin → ItemPut (item_meaning (item_in s p)) l n l n
+  pub item-src : (l : List ℕ) (n : Listed) → r ≡ Some range.SrcOrigin → ItemPut (item_meaning (item_in s p)) l n l n
   item-src l n k = absurd (item-no-src (item_in s p) (told-src (item_meaning (item_in s p)) r h k))
 
-  pub item-nothing : (l : List ℕ) (n : Listed) → r ≡ range.Nothing → ItemPut (item_meaning (item_in s p)) l n l n
+  pub item-nothing : (l : List ℕ) (n : Listed) → r ≡ None → ItemPut (item_meaning (item_in s p)) l n l n
   item-nothing l n k = rw (told-nothing (item_meaning (item_in s p)) r h k) (put-nothing nothing l n n.all n.own (with_nothing []) (sym (or-false n.all)) (sym (or-false n.own)))
 
-  module _ (e : ExpressionRange) (x : List ℕ) (m : x ≡ part_of s p.from p.to) (k : r ≡ range.Source e) where
+  module _ (e : ExpressionRange) (x : List ℕ) (m : x ≡ part_in s p.text) (k : r ≡ Some (range.Source e)) where
     means : item_meaning (item_in s p) ≡ source (expression_in x e)
     means = sym (item-in s p x r m h) ∙ ap (meaning_in x) k
 
@@ -96,10 +92,10 @@ module _ (s : List ℕ) (p : ItemRange) (r : MeaningRange) (h : r ≡ meaning_as
     pub item-packs : Packable (expression_in x e)
     item-packs = let f = source-item (item_in s p) (expression_in x e) means in good-packs (expression_in x e) (expression-good f.0 (expression_in x e) f.2)
 
-    pub item-source : (l l' : List ℕ) (n : Listed) (to : ℕ) → Wrote l n.to (expression_bytes (expression_in x e)) l' to → ItemPut (item_meaning (item_in s p)) l n l' (record { to = to; count = n.count + 1; all = n.all; own = n.own })
+    pub item-source : (l l' : List ℕ) (n : Listed) (to : ℕ) → Wrote l n.written.to (expression_bytes (expression_in x e)) l' to → ItemPut (item_meaning (item_in s p)) l n l' (record { written = record { to = to; count = n.written.count + 1 }; all = n.all; own = n.own })
     item-source l l' n to w =
         record {
-          wrote = wrote_as l l' n.to to (expression_bytes (expression_in x e)) (expressions_bytes (with_source (item_meaning (item_in s p)) [])) (sym source-bytes) w;
+          wrote = wrote_as l l' n.written.to to (expression_bytes (expression_in x e)) (expressions_bytes (with_source (item_meaning (item_in s p)) [])) (sym source-bytes) w;
           count = omega (arith, ap length one-source);
           all = rw means (sym (or-false n.all));
           own = rw means (sym (or-false n.own));
@@ -112,24 +108,24 @@ meanings_from s c = map item_meaning (items_from s c)
 -- items so far: the expressions that were passed, and those that are left
 pub record Listing (s : List ℕ) (first c : ℕ) (l : List ℕ) (at : ℕ) (m : List ℕ) (n : Listed) : Type 0 where
   pub passed : List SourceExpression
-  pub wrote : Wrote l at (expressions_bytes passed) m n.to
-  pub count : n.count ≡ length passed
+  pub wrote : Wrote l at (expressions_bytes passed) m n.written.to
+  pub count : n.written.count ≡ length passed
   pub left : passed ++ sources_of (meanings_from s c) ≡ sources_of (meanings_from s first)
   pub all : n.all || has_star (meanings_from s c) ≡ has_star (meanings_from s first)
   pub own : n.own || has_self (meanings_from s c) ≡ has_self (meanings_from s first)
 
-pub listing_start : (s : List ℕ) (first : ℕ) (l : List ℕ) (at : ℕ) → Listing s first first l at l (record { to = at; count = 0; all = false; own = false })
+pub listing_start : (s : List ℕ) (first : ℕ) (l : List ℕ) (at : ℕ) → Listing s first first l at l (record { written = record { to = at; count = 0 }; all = false; own = false })
 listing_start s first l at = record { passed = []; wrote = rw no_bytes (wrote_none l at); count = refl; left = refl; all = refl; own = refl }
 
 or_right : (a b c : Bool) → (a || b) || c ≡ a || (b || c)
 or_right true b c = refl
 or_right false b c = refl
 
-pub listing-count : (s : List ℕ) (first c : ℕ) (l : List ℕ) (at : ℕ) (m : List ℕ) (n : Listed) → Listing s first c l at m n → n.count ≤ n.to
+pub listing-count : (s : List ℕ) (first c : ℕ) (l : List ℕ) (at : ℕ) (m : List ℕ) (n : Listed) → Listing s first c l at m n → n.written.count ≤ n.written.to
 listing-count s first c l at m n g = omega (arith, g.wrote.end, g.count, bytes-many g.passed)
 
-module _ (s : List ℕ) (first c : ℕ) (l : List ℕ) (at : ℕ) (m : List ℕ) (n : Listed) (g : Listing s first c l at m n) (r : ListItem) (is : r ≡ cursor_at s c) where
-  module _ (f : ItemFound) (e : r ≡ list.Item f) where
+module _ (s : List ℕ) (first c : ℕ) (l : List ℕ) (at : ℕ) (m : List ℕ) (n : Listed) (g : Listing s first c l at m n) (r : Option ItemFound) (is : r ≡ cursor_at s c) where
+  module _ (f : ItemFound) (e : r ≡ Some f) where
     next-meaning : meanings_from s c ≡ item_meaning (item_in s f.range) ∷ meanings_from s f.next
     next-meaning = ap (map item_meaning) (items-item s c r is f e)
 
@@ -139,7 +135,7 @@ module _ (s : List ℕ) (first c : ℕ) (l : List ℕ) (at : ℕ) (m : List ℕ)
     next-all : (g.passed ++ with_source (item_meaning (item_in s f.range)) []) ++ sources_of (meanings_from s f.next) ≡ sources_of (meanings_from s first)
     next-all = append_assoc g.passed (with_source (item_meaning (item_in s f.range)) []) (sources_of (meanings_from s f.next)) ∙ (ap (λ (z : List SourceExpression). g.passed ++ z) (sym next-source) ∙ g.left)
 
-    pub listing-room : at + length (expressions_bytes (sources_of (meanings_from s first))) ≤ length l → n.to + length (expressions_bytes (with_source (item_meaning (item_in s f.range)) [])) ≤ length m
+    pub listing-room : at + length (expressions_bytes (sources_of (meanings_from s first))) ≤ length l → n.written.to + length (expressions_bytes (with_source (item_meaning (item_in s f.range)) [])) ≤ length m
     listing-room room =
         let w = with_source (item_meaning (item_in s f.range)) [] in
         let b : length (expressions_bytes (sources_of (meanings_from s first))) ≡ length (expressions_bytes g.passed) + length (expressions_bytes w) + length (expressions_bytes (sources_of (meanings_from s f.next))) =
@@ -155,14 +151,14 @@ module _ (s : List ℕ) (first c : ℕ) (l : List ℕ) (at : ℕ) (m : List ℕ)
         let o : has_self (meanings_from s c) ≡ is_self x || has_self rest = ap has_self next-meaning ∙ has-cons is_self x rest in
         record {
           passed = g.passed ++ with_source x [];
-          wrote = rw (bytes_on g.passed (with_source x [])) (wrote_on l m m' at n.to n'.to (expressions_bytes g.passed) (expressions_bytes (with_source x [])) g.wrote u.wrote);
+          wrote = rw (bytes_on g.passed (with_source x [])) (wrote_on l m m' at n.written.to n'.written.to (expressions_bytes g.passed) (expressions_bytes (with_source x [])) g.wrote u.wrote);
           count = omega (arith, u.count, g.count, length-append g.passed (with_source x []));
           left = next-all;
           all = rw (u.all, or_right n.all (is_star x) (has_star rest)) (rw a at g.all);
           own = rw (u.own, or_right n.own (is_self x) (has_self rest)) (rw o at g.own);
         }
 
-  pub listing-end : r ≡ list.End → ListPut (meanings_from s first) l at m n
+  pub listing-end : r ≡ None → ListPut (meanings_from s first) l at m n
   listing-end e =
       let i : meanings_from s c ≡ [] = ap (map item_meaning) (items-end s c r is e) in
       let z : sources_of (meanings_from s c) ≡ [] = ap sources_of i ∙ sources-nil in
@@ -185,10 +181,10 @@ pub mark-lone : (a b : Bool) (n r : ℕ) → not a && not b && eqb n 0 ≡ false
 unfolding pick
 mark-lone a b n r e f = rw e f
 
-list-marked : (ms : List Meaning) → list_mark (has_star ms) (has_self ms) ≡ mark_of (some (allowlist_of ms))
+list-marked : (ms : List Meaning) → list_mark (has_star ms) (has_self ms) ≡ mark_of (Some (allowlist_of ms))
 list-marked ms = go (has_star ms) refl (has_self ms) refl
   where
-    go : (a : Bool) → has_star ms ≡ a → (b : Bool) → has_self ms ≡ b → list_mark a b ≡ mark_of (some (allowlist_of ms))
+    go : (a : Bool) → has_star ms ≡ a → (b : Bool) → has_self ms ≡ b → list_mark a b ≡ mark_of (Some (allowlist_of ms))
     go true e b f = unfold mark_of in (rw (star-all ms e))
     go false e true f = unfold mark_of in (rw (no-star ms e, f))
     go false e false f = unfold mark_of in (rw (no-star ms e, f))
@@ -197,9 +193,9 @@ list-marked ms = go (has_star ms) refl (has_self ms) refl
 lone-marked : (x : Item) → lone_mark (is_star (item_meaning x)) (is_self (item_meaning x)) (length (with_source (item_meaning x) [])) ≡ mark_of (lone_declares (item_meaning x))
 lone-marked x = go (item_meaning x) (item-no-src x)
   where
-    counts : (m : Meaning) (o : Option Allowlist) → Lone m o → (m ≡ nothing → ⊥) → o ≡ some (allowlist_of (m ∷ []))
-    counts m none (ignored k) d = absurd (d k)
-    counts m (some l) counted d = refl
+    counts : (m : Meaning) (o : Option Allowlist) → Lone m o → (m ≡ nothing → ⊥) → o ≡ Some (allowlist_of (m ∷ []))
+    counts m None (ignored k) d = absurd (d k)
+    counts m (Some l) counted d = refl
 
     list : (m : Meaning) → (m ≡ nothing → ⊥) → list_mark (is_star m || false) (is_self m || false) ≡ mark_of (lone_declares m)
     list m d = (rw (has-cons is_star m [], has-cons is_self m [], has-nil is_star, has-nil is_self) at (list-marked (m ∷ []))) ∙ ap mark_of (sym (counts m (lone_declares m) (lone-cases m) d))
@@ -213,34 +209,34 @@ lone-marked x = go (item_meaning x) (item-no-src x)
 
 -- a value, by its cases
 module _ (s : List ℕ) (v : MemberValue) where
-  module _ (q : MemberItem) (k : v ≡ member.Item q) where
-    one-sources : value_sources (value_in s v) ≡ with_source (item_meaning (item_in s q.item)) []
-    one-sources = ap value_sources (value-item s v q k) ∙ (sources-cons (item_meaning (item_in s q.item)) [] ∙ ap (with_source (item_meaning (item_in s q.item))) sources-nil)
+  module _ (q : ItemRange) (k : v.range ≡ range_of.Item q) where
+    one-sources : value_sources (value_in s v) ≡ with_source (item_meaning (item_in s q)) []
+    one-sources = ap value_sources (value-item s v q k) ∙ (sources-cons (item_meaning (item_in s q)) [] ∙ ap (with_source (item_meaning (item_in s q))) sources-nil)
 
-    pub lone_room : (l : List ℕ) (at : ℕ) → at + length (expressions_bytes (value_sources (value_in s v))) ≤ length l → at + length (expressions_bytes (with_source (item_meaning (item_in s q.item)) [])) ≤ length l
+    pub lone_room : (l : List ℕ) (at : ℕ) → at + length (expressions_bytes (value_sources (value_in s v))) ≤ length l → at + length (expressions_bytes (with_source (item_meaning (item_in s q)) [])) ≤ length l
     lone_room l at g = rw one-sources at g
 
-    pub lone-put : (l l' : List ℕ) (at mark : ℕ) (n : Listed) → ItemPut (item_meaning (item_in s q.item)) l (record { to = at; count = 0; all = false; own = false }) l' n → mark ≡ lone_mark n.all n.own n.count → ValuePut (value_in s v) l at l' (record { to = n.to; count = n.count; mark = mark })
+    pub lone-put : (l l' : List ℕ) (at mark : ℕ) (n : Listed) → ItemPut (item_meaning (item_in s q)) l (record { written = record { to = at; count = 0 }; all = false; own = false }) l' n → mark ≡ lone_mark n.all n.own n.written.count → ValuePut (value_in s v) l at l' (record { written = n.written; mark = mark })
     lone-put l l' at mark n u e =
-        let x = item_in s q.item in
-        let c : n.count ≡ length (with_source (item_meaning x) []) = omega (arith, u.count) in
+        let x = item_in s q in
+        let c : n.written.count ≡ length (with_source (item_meaning x) []) = omega (arith, u.count) in
         record {
           wrote = rw one-sources u.wrote;
           count = rw one-sources c;
           mark = e ∙ (rw (u.all, u.own, c, value-item s v q k, value-one x) (lone-marked x));
         }
 
-  module _ (q : MemberList) (k : v ≡ member.List q) where
-    many-sources : value_sources (value_in s v) ≡ sources_of (meanings_from s q.first)
+  module _ (q : ℕ) (k : v.range ≡ range_of.List q) where
+    many-sources : value_sources (value_in s v) ≡ sources_of (meanings_from s q)
     many-sources = ap value_sources (value-list s v q k)
 
-    pub list-room : (l : List ℕ) (at : ℕ) → at + length (expressions_bytes (value_sources (value_in s v))) ≤ length l → at + length (expressions_bytes (sources_of (meanings_from s q.first))) ≤ length l
+    pub list-room : (l : List ℕ) (at : ℕ) → at + length (expressions_bytes (value_sources (value_in s v))) ≤ length l → at + length (expressions_bytes (sources_of (meanings_from s q))) ≤ length l
     list-room l at g = rw many-sources at g
 
-    pub list_put : (l l' : List ℕ) (at mark : ℕ) (n : Listed) → ListPut (meanings_from s q.first) l at l' n → mark ≡ list_mark n.all n.own → ValuePut (value_in s v) l at l' (record { to = n.to; count = n.count; mark = mark })
+    pub list_put : (l l' : List ℕ) (at mark : ℕ) (n : Listed) → ListPut (meanings_from s q) l at l' n → mark ≡ list_mark n.all n.own → ValuePut (value_in s v) l at l' (record { written = n.written; mark = mark })
     list_put l l' at mark n u e =
         record {
           wrote = rw many-sources u.wrote;
           count = rw many-sources u.count;
-          mark = e ∙ (rw (u.all, u.own, value-list s v q k, value-many (items_from s q.first)) (list-marked (meanings_from s q.first)));
+          mark = e ∙ (rw (u.all, u.own, value-list s v q k, value-many (items_from s q)) (list-marked (meanings_from s q)));
         }

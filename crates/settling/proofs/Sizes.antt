@@ -3,7 +3,7 @@ use mathlib.Core.Path.{◌≡◌, refl, ap, ◌∙◌}
 use Prim.Native.Nat.{ℕ, ◌+◌, ◌-◌, ◌≤◌, ◌<◌}
 use mathlib.Core.List.{List, [], ◌∷◌, map}
 use mathlib.Core.Bool.{Bool, true, false, ◌&&◌}
-use mathlib.Core.Option.{some}
+use Rattle.std.specs.Prelude.{Some}
 use native.Mathlib.Omega.{arith}
 use lib.ListN.{length, take, drop, length-append}
 use lib.Dec.{leb}
@@ -45,7 +45,7 @@ slashes-least Http = omega arith
 slashes-least Https = omega arith
 
 -- an expression's host is shorter than its text
-host-short : (x : List ℕ) (e : SourceExpression) → expression_of x ≡ some e → 4 + length (host_text e.host) ≤ length x
+host-short : (x : List ℕ) (e : SourceExpression) → expression_of x ≡ Some e → 4 + length (host_text e.host) ≤ length x
 host-short x e f = go e.host refl (ap (λ (z : SourceExpression). z.host) (expression-range x e f))
   where
     low : 5 ≤ length x

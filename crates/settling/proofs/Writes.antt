@@ -1,13 +1,19 @@
 -- Writing at a place, and expressions as bytes. Assumes nothing.
 use mathlib.Core.Path.{◌≡◌, refl, ap, ◌∙◌, sym}
-use Prim.Native.Nat.{ℕ, ◌+◌, ◌*◌, ◌/◌, ◌%◌, ◌≤◌, ◌<◌}
+use Prim.Native.Nat.{ℕ, ◌+◌, ◌*◌, ◌/◌, ◌%◌, ◌-◌, ◌≤◌, ◌<◌}
+use Rattle.std.specs.Prelude.{Option, Some, None}
 use mathlib.Core.List.{List, [], ◌∷◌, ◌++◌, append_assoc, append-nil}
+use mathlib.Core.Bool.{Bool, true, false}
+use lib.Dec.{leb}
+use borrow.Author.Tests.{leb-true, leb-false}
 use native.Mathlib.Omega.{arith}
-use native.Mathlib.Numerals.{add-one}
-use lib.ListN.{length, get_or, take, drop, set, length-append, length-set, take-append-drop}
-use lib.Seq.{take-suc, take-suc-set, drop-set-lt, drop-drop, take_all, take-append_seam, drop-append_seam, length-take-le}
+use lib.ListN.{length, get_or, take, drop, length-append, length-drop, take-append-drop}
+use lib.Seq.{drop-drop, take_at, drop_at, take-append_seam, drop-append_seam, length-take-le}
 use Rattle.ascii.specs.Bytes.{pick, lower}
-use Rattle.ascii.specs.Texts.{each, lowered, part_of}
+use Rattle.ascii.specs.Texts.{each, lowered, part_in}
+use Rattle.std.specs.Prelude.{map}
+use Rattle.std.specs.Char.{to_ascii_lowercase}
+use Rattle.std.proofs.lemmas.Str.Ascii.{lowercase_is}
 use Rattle.origins.specs.Expressions.{HostPart, SourceExpression}
 use Rattle.origins.specs.Expressions.HostPart.{no_host, any_host, exact_host, subdomains_of}
 use Rattle.origins.specs.Answers.{host_kind, host_in, expression_in}
@@ -25,10 +31,25 @@ use Rattle.settled.proofs.Laws.{from-none, from_first, parts-by}
 use Rattle.settling.specs.Writing.{scheme_number, host_number, host_text, port_number, port_value, kind_of, expression_bytes, expressions_bytes}
 use Rattle.settling.specs.Steps.{Wrote}
 
--- one byte, nothing, one text after another
-pub wrote-byte : (l : List ℕ) (at v : ℕ) → at < length l → Wrote l at (v ∷ []) (set l at v) (at + 1)
-wrote-byte l at v h = record { end = refl; front = rw add-one (take-suc-set l at v h); back = drop-set-lt (at + 1) l at v (omega arith); long = length-set l at v }
+-- a text between what stood before it and past it
+wrote-parts : (l t : List ℕ) (at : ℕ) → at + length t ≤ length l → Wrote l at t (take at l ++ (t ++ drop (at + length t) l)) (at + length t)
+wrote-parts l t at h =
+    let a = take at l in
+    let r = drop (at + length t) l in
+    let n : length a ≡ at = length-take-le at l (omega arith) in
+    let m : length (a ++ t) ≡ at + length t = omega (arith, length-append a t, n) in
+    record {
+      end = refl;
+      front = ap (take (at + length t)) (sym (append_assoc a t r)) ∙ take_at (a ++ t) r (at + length t) m;
+      back = ap (drop (at + length t)) (sym (append_assoc a t r)) ∙ drop_at (a ++ t) r (at + length t) m;
+      long = omega (arith, length-append a (t ++ r), length-append t r, n, length-drop (at + length t) l);
+    }
 
+-- the same, as a part of the run that was replaced
+pub wrote-part : (l t m : List ℕ) (at k : ℕ) → at + length t ≤ length l → k ≡ length t → m ≡ t → Wrote l at t (take at l ++ (m ++ drop k (drop at l))) (at + length t)
+wrote-part l t m at k h e f = rw (e, f, drop-drop (length t) at l) (wrote-parts l t at h)
+
+-- nothing, one text after another
 pub wrote_none : (l : List ℕ) (at : ℕ) → Wrote l at [] l at
 wrote_none l at = record { end = omega arith; front = sym (append-nil (take at l)); back = refl; long = refl }
 
@@ -41,86 +62,51 @@ wrote_on l m n at q r a b x y =
       long = y.long ∙ x.long;
     }
 
--- bytes at places one after the other
-pub wrote-four : (l : List ℕ) (at a b c d : ℕ) → at + 4 ≤ length l → Wrote l at (a ∷ b ∷ c ∷ d ∷ []) (set (set (set (set l at a) (at + 1) b) (at + 2) c) (at + 3) d) (at + 4)
-wrote-four l at a b c d h =
-    let l1 = set l at a in
-    let l2 = set l1 (at + 1) b in
-    let l3 = set l2 (at + 2) c in
-    let e1 : length l1 ≡ length l = length-set l at a in
-    let e2 : length l2 ≡ length l1 = length-set l1 (at + 1) b in
-    let e3 : length l3 ≡ length l2 = length-set l2 (at + 2) c in
-    let i : at + 1 + 1 ≡ at + 2 = omega arith in
-    let j : at + 2 + 1 ≡ at + 3 = omega arith in
-    let k : at + 3 + 1 ≡ at + 4 = omega arith in
-    let w1 : Wrote l at (a ∷ []) l1 (at + 1) = wrote-byte l at a (omega arith) in
-    let w2 : Wrote l1 (at + 1) (b ∷ []) l2 (at + 2) = rw i at (wrote-byte l1 (at + 1) b (omega arith)) in
-    let w3 : Wrote l2 (at + 2) (c ∷ []) l3 (at + 3) = rw j at (wrote-byte l2 (at + 2) c (omega arith)) in
-    let w4 : Wrote l3 (at + 3) (d ∷ []) (set l3 (at + 3) d) (at + 4) = rw k at (wrote-byte l3 (at + 3) d (omega arith)) in
-    wrote_on l l3 (set l3 (at + 3) d) at (at + 3) (at + 4) (a ∷ b ∷ c ∷ []) (d ∷ [])
-    (wrote_on l l2 l3 at (at + 2) (at + 3) (a ∷ b ∷ []) (c ∷ []) (wrote_on l l1 l2 at (at + 1) (at + 2) (a ∷ []) (b ∷ []) w1 w2) w3) w4
-
-pub front-wrote : (l : List ℕ) (at k n p x y : ℕ) → at + 4 ≤ length l → x ≡ p % 256 → y ≡ p / 256 → Wrote l at (k ∷ n ∷ p % 256 ∷ p / 256 ∷ []) (set (set (set (set l at k) (at + 1) n) (at + 2) x) (at + 3) y) (at + 4)
-front-wrote l at k n p x y h e f = rw (e, f) (wrote-four l at k n (p % 256) (p / 256) h)
-
-pub word-wrote : (l : List ℕ) (at n x y : ℕ) → at + 2 ≤ length l → x ≡ n % 256 → y ≡ n / 256 → Wrote l at (n % 256 ∷ n / 256 ∷ []) (set (set l at x) (at + 1) y) (at + 2)
-word-wrote l at n x y h e f =
-    let l1 = set l at x in
-    let e1 : length l1 ≡ length l = length-set l at x in
-    let i : at + 1 + 1 ≡ at + 2 = omega arith in
-    let w2 : Wrote l1 (at + 1) (y ∷ []) (set l1 (at + 1) y) (at + 2) = rw i at (wrote-byte l1 (at + 1) y (omega arith)) in
-    rw (← e, ← f) (wrote_on l l1 (set l1 (at + 1) y) at (at + 1) (at + 2) (x ∷ []) (y ∷ []) (wrote-byte l at x (omega arith)) w2)
-
-pub entry-wrote : (l m n o : List ℕ) (i a b r mark start count : ℕ) → Wrote l i (mark ∷ []) m a → Wrote m a (start % 256 ∷ start / 256 ∷ []) n b → Wrote n b (count % 256 ∷ count / 256 ∷ []) o r → Wrote l i (mark ∷ start % 256 ∷ start / 256 ∷ count % 256 ∷ count / 256 ∷ []) o r
-entry-wrote l m n o i a b r mark start count u v w =
-    wrote_on l n o i b r (mark ∷ start % 256 ∷ start / 256 ∷ []) (count % 256 ∷ count / 256 ∷ [])
-    (wrote_on l m n i a b (mark ∷ []) (start % 256 ∷ start / 256 ∷ []) u v) w
-
 pub wrote_as : (l m : List ℕ) (at r : ℕ) (a b : List ℕ) → a ≡ b → Wrote l at a m r → Wrote l at b m r
 wrote_as l m at r a b e w = rw e at w
 
--- a text in lower case, byte by byte
-each_append : (f : ℕ → ℕ) (a b : List ℕ) → each f (a ++ b) ≡ each f a ++ each f b
+-- a run by what was written in it
+pub wrote-is : (l m t : List ℕ) (at r : ℕ) → Wrote l at t m r → m ≡ take at l ++ (t ++ drop (at + length t) l)
+wrote-is l m t at r w =
+    sym (take-append-drop r m)
+    ∙ (ap (λ (z : List ℕ). z ++ drop r m) w.front ∙ (ap (λ (z : List ℕ). (take at l ++ t) ++ z) w.back ∙ (rw w.end (append_assoc (take at l) t (drop (at + length t) l)))))
+
+-- a text in lower case
+lower-is : (x : ℕ) → to_ascii_lowercase x ≡ lower x
+unfolding lower pick
+lower-is x = go (leb 65 x) refl (leb x 90) refl
+  where
+    go : (a : Bool) → leb 65 x ≡ a → (b : Bool) → leb x 90 ≡ b → to_ascii_lowercase x ≡ lower x
+    go true u true v = rw (u, v) ((lowercase_is x).0 (leb-true 65 x u, leb-true x 90 v))
+    go true u false v = rw (u, v) ((lowercase_is x).2 (leb-false x 90 v))
+    go false u b v = rw u ((lowercase_is x).1 (leb-false 65 x u))
+
+lowered-map : (t : List ℕ) → map to_ascii_lowercase t ≡ lowered t
 unfolding each
-each_append f [] b = refl
-each_append f (x ∷ xs) b = ap (λ (l : List ℕ). f x ∷ l) (each_append f xs b)
+lowered-map [] = refl
+lowered-map (x ∷ xs) = λ j. lower-is x j ∷ lowered-map xs j
 
-pub low-start : (l : List ℕ) (at : ℕ) (t : List ℕ) → Wrote l at (lowered (take 0 t)) l at
-unfolding each
-low-start l at t = wrote_none l at
+pub wrote-lowered : (l t m : List ℕ) (at k to : ℕ) (u : List ℕ) → Wrote l at t m to → at + length t ≤ length l → k ≡ to - at → u ≡ map to_ascii_lowercase (take k (drop at m)) → Wrote l at (lowered t) (take at m ++ (u ++ drop k (drop at m))) to
+wrote-lowered l t m at k to u w h e f =
+    let a = take at l in
+    let r = drop (at + length t) l in
+    let n : length a ≡ at = length-take-le at l (omega arith) in
+    let z : to ≡ at + length t = w.end in
+    let i : k ≡ length t = omega arith in
+    let b : m ≡ a ++ (t ++ r) = wrote-is l m t at to w in
+    let c : drop at m ≡ t ++ r = ap (drop at) b ∙ drop_at a (t ++ r) at n in
+    let d : take at m ≡ a = ap (take at) b ∙ take_at a (t ++ r) at n in
+    let o : take k (t ++ r) ≡ t = take_at t r k (sym i) in
+    let q : drop k (t ++ r) ≡ r = drop_at t r k (sym i) in
+    let v : u ≡ lowered t = (rw (c, o) at f) ∙ lowered-map t in
+    let g : at + length (lowered t) ≡ at + length t = omega (arith, each-length lower t) in
+    rw (c, d, q, v, z) (rw g at (wrote-parts l (lowered t) at (omega arith)))
 
-pub low-more : (l m n : List ℕ) (at o r : ℕ) (t : List ℕ) (j x : ℕ) → j < length t → x ≡ lower (get_or t j 0) → Wrote l at (lowered (take j t)) m o → Wrote m o (x ∷ []) n r → Wrote l at (lowered (take (j + 1) t)) n r
-low-more l m n at o r t j x h e u v =
-    let w : lowered (take j t) ++ (x ∷ []) ≡ lowered (take (j + 1) t) = rw (add-one, take-suc t j 0 h, each_append lower (take j t) (get_or t j 0 ∷ []), e) (unfold each in refl) in
-    wrote_as l n at r (lowered (take j t) ++ (x ∷ [])) (lowered (take (j + 1) t)) w (wrote_on l m n at o r (lowered (take j t)) (x ∷ []) u v)
-
-pub low-all : (l m : List ℕ) (at r : ℕ) (t : List ℕ) (j : ℕ) → length t ≤ j → Wrote l at (lowered (take j t)) m r → Wrote l at (lowered t) m r
-low-all l m at r t j h u = rw (take_all j t h) at u
-
-pub low-room : (l m : List ℕ) (at o : ℕ) (t : List ℕ) (j : ℕ) → j < length t → at + length t ≤ length l → Wrote l at (lowered (take j t)) m o → o < length m
-low-room l m at o t j h g w = omega (arith, w.end, w.long, each-length lower (take j t), length-take-le j t (omega arith))
-
--- the text of a host
-module _ (x t : List ℕ) (e : ExpressionRange) where
-  pub host-none : e.host ≡ kind.None → lowered [] ≡ host_text (expression_in x e).host
-  unfolding each
-  host-none k = rw k
-
-  pub host-any : e.host ≡ kind.Any → lowered [] ≡ host_text (expression_in x e).host
-  unfolding each
-  host-any k = rw k
-
-  pub host-exact : t ≡ part_of x e.from e.to → e.host ≡ kind.Exact → lowered t ≡ host_text (expression_in x e).host
-  host-exact m k = rw (k, m)
-
-  pub host-subdomains : t ≡ part_of x e.from e.to → e.host ≡ kind.Subdomains → lowered t ≡ host_text (expression_in x e).host
-  host-subdomains m k = rw (k, m)
-
-kind-back : (k : HostKind) (h : List ℕ) → host_kind (host_in k h) ≡ k
-kind-back kind.None h = refl
-kind-back kind.Any h = refl
-kind-back kind.Exact h = refl
-kind-back kind.Subdomains h = refl
+kind-back : (k : Option HostKind) (h : List ℕ) → host_kind (host_in k h) ≡ k
+kind-back None h = refl
+kind-back (Some kind.Any) h = refl
+kind-back (Some kind.Exact) h = refl
+kind-back (Some kind.Subdomains) h = refl
 
 pub port-fits : (p : PortPart) (n : ℕ) → port_value p ≤ 65535 → n ≡ port_value p → n ≤ 65535
 port-fits p n h e = omega arith
@@ -130,12 +116,15 @@ module _ (x h : List ℕ) (e : ExpressionRange) (is : lowered h ≡ host_text (e
   pub host-fits : length (host_text (expression_in x e).host) ≤ 255 → length h ≤ 255
   host-fits p = omega (arith, ap length is, each-length lower h)
 
-  pub expression-wrote : (l m m' : List ℕ) (at o r k n p : ℕ) → p ≡ port_value e.port → k ≡ scheme_number e.scheme + 2 * host_number e.host + 8 * port_number e.port → n ≡ length h → Wrote l at (k ∷ n ∷ p % 256 ∷ p / 256 ∷ []) m o → Wrote m o (lowered h) m' r → Wrote l at (expression_bytes (expression_in x e)) m' r
-  expression-wrote l m m' at o r k n p ep ek en u v =
-      wrote_as l m' at r (k ∷ n ∷ p % 256 ∷ p / 256 ∷ lowered h) (expression_bytes (expression_in x e)) same (wrote_on l m m' at o r (k ∷ n ∷ p % 256 ∷ p / 256 ∷ []) (lowered h) u v)
+  pub expression-wrote : (l m m' : List ℕ) (at o r k n p : ℕ) (bs : List ℕ) → p ≡ port_value e.parts.port → p ≤ 65535 → k ≡ scheme_number e.parts.scheme + 2 * host_number e.parts.host + 8 * port_number e.parts.port → n ≡ length h → bs ≡ p % 256 ∷ p / 256 % 256 ∷ [] → Wrote l at (k ∷ n ∷ get_or bs 0 0 ∷ get_or bs 1 0 ∷ []) m o → Wrote m o (lowered h) m' r → Wrote l at (expression_bytes (expression_in x e)) m' r
+  expression-wrote l m m' at o r k n p bs ep lp ek en eb u v =
+      wrote_as l m' at r (k ∷ n ∷ p % 256 ∷ p / 256 ∷ lowered h) (expression_bytes (expression_in x e)) same (wrote_on l m m' at o r (k ∷ n ∷ p % 256 ∷ p / 256 ∷ []) (lowered h) front v)
     where
+      front : Wrote l at (k ∷ n ∷ p % 256 ∷ p / 256 ∷ []) m o
+      front = let i : p / 256 % 256 ≡ p / 256 = omega arith in let j : bs ≡ p % 256 ∷ p / 256 ∷ [] = eb ∙ ap (λ (z : ℕ). p % 256 ∷ z ∷ []) i in rw j at u
+
       same : k ∷ n ∷ p % 256 ∷ p / 256 ∷ lowered h ≡ expression_bytes (expression_in x e)
-      same = unfold expression_bytes in (rw (kind-back e.host (lowered (part_of x e.from e.to)), ← is, ek, ep, each-length lower h, en) refl)
+      same = unfold expression_bytes in (rw (kind-back e.parts.host (lowered (part_in x e.host)), ← is, ek, ep, each-length lower h, en) refl)
 
 -- there is room for each of them
 pub expression-bytes : (e : SourceExpression) → length (expression_bytes e) ≡ 4 + length (host_text e.host)
@@ -161,12 +150,12 @@ unfolding pick
 scheme-back Http = refl
 scheme-back Https = refl
 
-bits_back : (k : HostKind) → host_bits (host_number k) ≡ k
+bits_back : (k : Option HostKind) → host_bits (host_number k) ≡ k
 unfolding pick
-bits_back kind.None = refl
-bits_back kind.Any = refl
-bits_back kind.Exact = refl
-bits_back kind.Subdomains = refl
+bits_back None = refl
+bits_back (Some kind.Any) = refl
+bits_back (Some kind.Exact) = refl
+bits_back (Some kind.Subdomains) = refl
 
 host-back : (x : HostPart) → host_in (host_kind x) (host_text x) ≡ x
 host-back no_host = refl
@@ -178,11 +167,11 @@ scheme-small : (k : Scheme) → scheme_number k < 2
 scheme-small Http = omega arith
 scheme-small Https = omega arith
 
-kind-small : (k : HostKind) → host_number k < 4
-kind-small kind.None = omega arith
-kind-small kind.Any = omega arith
-kind-small kind.Exact = omega arith
-kind-small kind.Subdomains = omega arith
+kind-small : (k : Option HostKind) → host_number k < 4
+kind-small None = omega arith
+kind-small (Some kind.Any) = omega arith
+kind-small (Some kind.Exact) = omega arith
+kind-small (Some kind.Subdomains) = omega arith
 
 part-back : (e : SourceExpression) → expression_by (parts_of (kind_of e) (word (port_value e.port % 256) (port_value e.port / 256))) (host_text e.host) ≡ e
 part-back e =
@@ -223,9 +212,3 @@ pub bytes-many : (es : List SourceExpression) → 4 * length es ≤ length (expr
 unfolding expressions_bytes expression_bytes
 bytes-many [] = omega arith
 bytes-many (e ∷ es) = omega (arith, bytes-many es, length-append (expression_bytes e) (expressions_bytes es))
-
--- a run by what was written in it
-pub wrote-is : (l m t : List ℕ) (at r : ℕ) → Wrote l at t m r → m ≡ take at l ++ (t ++ drop (at + length t) l)
-wrote-is l m t at r w =
-    sym (take-append-drop r m)
-    ∙ (ap (λ (z : List ℕ). z ++ drop r m) w.front ∙ (ap (λ (z : List ℕ). (take at l ++ t) ++ z) w.back ∙ (rw w.end (append_assoc (take at l) t (drop (at + length t) l)))))

@@ -1,6 +1,6 @@
 -- Headers, the bytes that they are settled into, and what these say, by computation.
 use Rattle.std.specs.Prelude.{ℕ, ◌≡◌, refl, List, [], ◌∷◌, ◌++◌, true, false, replicate}
-use Rattle.std.proofs.Math.Option.{some, none}
+use Rattle.std.specs.Prelude.{Some, None}
 use Rattle.ascii.specs.Literals.{text}
 use Rattle.origins.specs.Expressions.HostPart.{exact_host}
 use Rattle.origins.specs.declared.Scheme.TheVariants.{Https}
@@ -19,19 +19,19 @@ example_bytes : settled_bytes example ≡ 3 ∷ 0 ∷ 0 ∷ 2 ∷ 0 ∷ (replica
 unfolding computing
 example_bytes = refl
 
-example_camera : declared_in (settled_bytes example) 0 ≡ some (listed true false (record { scheme = Https; host = exact_host (text "b.example"); port = Number 443 } ∷ record { scheme = Https; host = exact_host (text "b.example"); port = Default } ∷ []))
+example_camera : declared_in (settled_bytes example) 0 ≡ Some (listed true false (record { scheme = Https; host = exact_host (text "b.example"); port = Number 443 } ∷ record { scheme = Https; host = exact_host (text "b.example"); port = Default } ∷ []))
 unfolding computing
 example_camera = refl
 
-example_forms : declared_in (settled_bytes example) 3 ≡ some all
+example_forms : declared_in (settled_bytes example) 3 ≡ Some all
 unfolding computing
 example_forms = refl
 
-example_popups : declared_in (settled_bytes example) 12 ≡ none
+example_popups : declared_in (settled_bytes example) 12 ≡ None
 unfolding computing
 example_popups = refl
 
-example_usb : declared_in (settled_bytes example) 16 ≡ some (listed true false [])
+example_usb : declared_in (settled_bytes example) 16 ≡ Some (listed true false [])
 unfolding computing
 example_usb = refl
 

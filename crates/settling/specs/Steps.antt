@@ -1,6 +1,6 @@
 -- What the steps of settling a header promise of one another.
 use Rattle.std.specs.Prelude.{ℕ, ◌+◌, ◌≤◌, ◌≡◌, List, [], ◌++◌, Bool, true, false, not, ◌&&◌, ◌||◌, length, take, drop, replicate, eqb}
-use Rattle.std.proofs.Math.Option.{Option}
+use Rattle.std.specs.Prelude.{Option}
 use Rattle.ascii.specs.Bytes.{pick}
 use Rattle.origins.specs.Expressions.{SourceExpression}
 use Rattle.dictionaries.specs.Dictionaries.{Value, members}
@@ -25,15 +25,15 @@ pub record Wrote (before : List ℕ) (at : ℕ) (text after : List ℕ) (to : �
 
 -- an item's expression was written, if it is one
 pub record ItemPut (x : Meaning) (before : List ℕ) (n : Listed) (after : List ℕ) (r : Listed) : Type 0 where
-  pub wrote : Wrote before n.to (expressions_bytes (with_source x [])) after r.to
-  pub count : r.count ≡ n.count + length (with_source x [])
+  pub wrote : Wrote before n.written.to (expressions_bytes (with_source x [])) after r.written.to
+  pub count : r.written.count ≡ n.written.count + length (with_source x [])
   pub all : r.all ≡ n.all || is_star x
   pub own : r.own ≡ n.own || is_self x
 
 -- the expressions of a list were written
 pub record ListPut (ms : List Meaning) (before : List ℕ) (at : ℕ) (after : List ℕ) (r : Listed) : Type 0 where
-  pub wrote : Wrote before at (expressions_bytes (sources_of ms)) after r.to
-  pub count : r.count ≡ length (sources_of ms)
+  pub wrote : Wrote before at (expressions_bytes (sources_of ms)) after r.written.to
+  pub count : r.written.count ≡ length (sources_of ms)
   pub all : r.all ≡ has_star ms
   pub own : r.own ≡ has_self ms
 
@@ -49,8 +49,8 @@ lone_mark all own n = pick (not all && not own && eqb n 0) 0 (list_mark all own)
 
 -- the expressions of a value were written, and its mark is known
 pub record ValuePut (v : Value) (before : List ℕ) (at : ℕ) (after : List ℕ) (r : Kept) : Type 0 where
-  pub wrote : Wrote before at (expressions_bytes (value_sources v)) after r.to
-  pub count : r.count ≡ length (value_sources v)
+  pub wrote : Wrote before at (expressions_bytes (value_sources v)) after r.written.to
+  pub count : r.written.count ≡ length (value_sources v)
   pub mark : r.mark ≡ mark_of (value_declares v)
 
 -- a run begins with a document, and from there on it has the bytes of another

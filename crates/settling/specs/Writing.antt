@@ -1,6 +1,6 @@
 -- 01, "How a decision falls": "Policies are settled at load." The bytes that a header is settled into; `settled` has the layout, and says what they say.
 use Rattle.std.specs.Prelude.{ℕ, ◌+◌, ◌*◌, ◌/◌, ◌%◌, List, [], ◌∷◌, ◌++◌, map, true, false, length, take, drop, replicate}
-use Rattle.std.proofs.Math.Option.{Option, some, none}
+use Rattle.std.specs.Prelude.{Option, Some, None}
 use Rattle.features.specs.Features.{feature_of}
 use Rattle.origins.specs.Expressions.{HostPart, SourceExpression}
 use Rattle.origins.specs.Expressions.HostPart.{no_host, any_host, exact_host, subdomains_of}
@@ -23,11 +23,11 @@ abbrev pub scheme_number : Scheme → ℕ
 scheme_number Http = 0
 scheme_number Https = 1
 
-abbrev pub host_number : HostKind → ℕ
-host_number kind.None = 0
-host_number kind.Any = 1
-host_number kind.Exact = 2
-host_number kind.Subdomains = 3
+abbrev pub host_number : Option HostKind → ℕ
+host_number None = 0
+host_number (Some kind.Any) = 1
+host_number (Some kind.Exact) = 2
+host_number (Some kind.Subdomains) = 3
 
 abbrev pub port_number : PortPart → ℕ
 port_number port.Default = 0
@@ -64,10 +64,10 @@ value_sources v = sources_of (map item_meaning (value_items v))
 
 -- the mark of what is declared
 unfoldable pub mark_of : Option Allowlist → ℕ
-mark_of none = 0
-mark_of (some all) = 1
-mark_of (some (listed false b es)) = 2
-mark_of (some (listed true b es)) = 3
+mark_of None = 0
+mark_of (Some all) = 1
+mark_of (Some (listed false b es)) = 2
+mark_of (Some (listed true b es)) = 3
 
 -- an entry of the head: a mark, where the expressions start past the head, and how many they are
 abbrev pub entry_text : ℕ → ℕ → ℕ → List ℕ
@@ -84,8 +84,8 @@ pub record SettledDocument : Type 0 where
 
 -- a feature's value: its expressions stand past those so far, and its entry tells of them; a key that is no feature's name counts for nothing
 unfoldable pub with_value : SettledDocument → Option ℕ → Value → SettledDocument
-with_value d none v = d
-with_value d (some n) v =
+with_value d None v = d
+with_value d (Some n) v =
     record {
       head = with_entry d.head n (entry_text (mark_of (value_declares v)) (length d.body) (length (value_sources v)));
       body = d.body ++ expressions_bytes (value_sources v);
@@ -100,8 +100,8 @@ empty_document = record { head = replicate head_bytes 0; body = [] }
 
 -- "A malformed header declares nothing"
 unfoldable pub document_of : Option (List Plain) → SettledDocument
-document_of (some ms) = into with_member empty_document ms
-document_of none = empty_document
+document_of (Some ms) = into with_member empty_document ms
+document_of None = empty_document
 
 -- the bytes that a header is settled into
 unfoldable pub settled_bytes : List ℕ → List ℕ

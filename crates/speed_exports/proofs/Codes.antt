@@ -1,4 +1,6 @@
 -- The numbers of answers, in the terms of the code. Assumes nothing.
+use Rattle.std.specs.Prelude.{Result, Ok, Err}
+use Rattle.std.specs.Prelude.{Option, Bool}
 use mathlib.Core.Path.{◌≡◌, ◌∙◌, sym}
 use Prim.Native.Nat.{ℕ, ◌+◌, ◌-◌, ◌/◌, ◌%◌}
 use mathlib.Core.List.{List}
@@ -18,20 +20,15 @@ use Rattle.origins.specs.declared.Scheme.{Scheme}
 use Rattle.origins.specs.declared.Scheme.TheVariants.{Http, Https}
 use Rattle.origins.specs.declared.OriginRange.TheVariants as range
 use Rattle.allowlists.specs.Allowlists.{some_admits}
-use Rattle.allowlists.specs.Answers.{admission_as}
-use Rattle.allowlists.specs.declared.Admission.{Admission}
 use Rattle.settled.specs.Settled.{declared_in}
-use Rattle.settling.specs.declared.Settled.{Settled}
-use Rattle.settling.specs.declared.Settled.TheVariants as settled
+use Rattle.settling.specs.declared.SettleError.{SettleError}
 use Rattle.settling.specs.declared.SettledHeader.{SettledHeader}
-use Rattle.tidying.specs.declared.TidyAnswer.{TidyAnswer}
-use Rattle.tidying.specs.declared.TidyAnswer.TheVariants as tidy
 use Rattle.speed_exports.specs.Codes.{beyond, tidy_code, settled_code, admission_code, is_own, asked_scheme, asked_origin}
 
-pub tidy-refused : (a : TidyAnswer) (r : Refusal) (n : ℕ) → a ≡ tidy.Refused r → n ≡ refusal_number r → beyond + n ≡ tidy_code a
+pub tidy-refused : (a : Result ℕ Refusal) (r : Refusal) (n : ℕ) → a ≡ Err r → n ≡ refusal_number r → beyond + n ≡ tidy_code a
 tidy-refused a r n k e = rw (k, e)
 
-module _ (a : Settled) (f : SettledHeader) (k : a ≡ settled.Header f) where
+module _ (a : Result SettledHeader SettleError) (f : SettledHeader) (k : a ≡ Ok f) where
   pub settled-malformed : f.malformed ≡ true → beyond ≡ settled_code a
   unfolding pick
   settled-malformed e = rw (k, e)
@@ -52,5 +49,5 @@ module _ (asked : ℕ) where
 whole_part : (h : List ℕ) → part_of h 0 (length h) ≡ h
 whole_part h = let z : length h - 0 ≡ length h = omega arith in sym (part-in h 0 (length h) (omega arith) (omega arith)) ∙ (rw z (take-length h))
 
-pub admits-code : (d : List ℕ) (n asked : ℕ) (h : List ℕ) (s : Scheme) (a : Admission) (r : ℕ) → s ≡ asked_scheme asked → a ≡ admission_as (some_admits (declared_in d n) (is_own asked) false (origin_in h (range.Tuple (record { scheme = s; from = 0; to = length h; port = asked / 65536 })))) → r ≡ admission_code a → r ≡ admission_code (admission_as (some_admits (declared_in d n) (is_own asked) false (tuple (asked_origin asked h))))
+pub admits-code : (d : List ℕ) (n asked : ℕ) (h : List ℕ) (s : Scheme) (a : Option Bool) (r : ℕ) → s ≡ asked_scheme asked → a ≡ some_admits (declared_in d n) (is_own asked) false (origin_in h (range.Tuple (record { parts = record { scheme = s; port = asked / 65536 }; host = record { from = 0; to = length h } }))) → r ≡ admission_code a → r ≡ admission_code (some_admits (declared_in d n) (is_own asked) false (tuple (asked_origin asked h)))
 admits-code d n asked h s a r e f g = rw (g, f, whole_part h, e)

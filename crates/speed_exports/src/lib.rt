@@ -6,7 +6,6 @@ ghost use Rattle.limits.specs.Limits.{document_limit};
 ghost use Rattle.limits.specs.Refusals.{refusal_number};
 ghost use Rattle.origins.specs.Origins.Origin.{tuple};
 ghost use Rattle.allowlists.specs.Allowlists.{some_admits};
-ghost use Rattle.allowlists.specs.Answers.{admission_as};
 ghost use Rattle.settled.specs.Settled.{declared_in};
 ghost use Rattle.document_model.specs.Model.{top_load, framed_load, unload, question, enabled_features, listing, forecast_of, refused, answer_to};
 ghost use Rattle.document_table.specs.Layout.{table_bytes, view};
@@ -15,25 +14,25 @@ ghost use Rattle.documents.specs.Answers.{Valid, question_in, features_in, load_
 ghost use Rattle.speed_exports.specs.Codes.{tidy_code, settled_code, admission_code, TidiedBy, SettledBy, is_own, asked_scheme, asked_origin};
 ghost use Rattle.speed_exports.specs.Numbers.{numbers_of, new_numbers, listing_numbers, marks_of, IsNewBy, LoadsBy, UnloadsBy, ListsBy};
 
-use allowlists::Admission;
+use ascii::TextRange;
+use decisions::Decision;
 use document_loads::FrameMarks;
-use documents::{
-    FeaturesAnswer, ListingAnswer, LoadAnswer, NewAnswer, QuestionAnswer, UnloadAnswer,
-};
+use documents::LoadedDocument;
 use limits::Refusal;
-use origins::{OriginRange, Scheme, TupleRange};
-use settling::Settled;
-use tidying::TidyAnswer;
+use origins::{OriginRange, Scheme, TupleParts, TupleRange};
+use settling::{SettleError, SettledHeader};
+
+// The exports answer in numbers, and each kind of answer has a function for its own: the C interface.
 
 // 2^32: numbers from here on are no lengths.
 const BEYOND: u64 = 4_294_967_296;
 
-fn tidy_code(a: TidyAnswer) -> u64
+fn tidy_code(a: Result<usize, Refusal>) -> u64
     ensures { result ≡ tidy_code a }
 {
     match a {
-        TidyAnswer::Length(n) => n as u64,
-        TidyAnswer::Refused(k) => BEYOND + (limits::refusal_number(k) as u64),
+        Ok(n) => n as u64,
+        Err(k) => BEYOND + (limits::refusal_number(k) as u64),
     }
 }
 
@@ -46,13 +45,15 @@ pub extern "C" fn speed_tidy(s: &[u8], out: &mut [u8]) -> u64
     tidy_code(a)
 }
 
-fn settled_code(a: Settled) -> u64
+fn settled_code(a: Result<SettledHeader, SettleError>) -> u64
     ensures { result ≡ settled_code a }
 {
     match a {
-        Settled::Header(f) => { if f.malformed { BEYOND } else { f.to as u64 } }
-        Settled::TooLong => 2 * BEYOND,
-        Settled::NoRoom => 4 * BEYOND,
+        Ok(f) => { if f.malformed { BEYOND } else { f.to as u64 } }
+        Err(error) => match error {
+            SettleError::TooLong => 2 * BEYOND,
+            SettleError::NoRoom => 4 * BEYOND,
+        },
     }
 }
 
@@ -65,13 +66,12 @@ pub extern "C" fn speed_settle(s: &[u8], run: &mut [u8]) -> u64
     settled_code(a)
 }
 
-fn admission_code(a: Admission) -> u32
+fn admission_code(a: Option<bool>) -> u32
     ensures { result ≡ admission_code a }
 {
     match a {
-        Admission::NoList => 0,
-        Admission::Admitted => 1,
-        Admission::NotAdmitted => 2,
+        None => 0,
+        Some(admitted) => if admitted { 1 } else { 2 },
     }
 }
 
@@ -88,14 +88,19 @@ fn asked_scheme(asked: u32) -> Scheme
 // Whether a document's bytes admit a tuple origin for a feature, the origin by its host and one number for the rest.
 #[unsafe(no_mangle)]
 pub extern "C" fn speed_admits(d: &[u8], feature: u32, asked: u32, host: &[u8]) -> u32
-    ensures { result ≡ admission_code (admission_as (some_admits (declared_in d.now feature) (is_own asked) false (tuple (asked_origin asked host.now)))) }
+    ensures { result ≡ admission_code (some_admits (declared_in d.now feature) (is_own asked) false (tuple (asked_origin asked host.now))) }
 {
     let scheme = asked_scheme(asked);
-    let o = OriginRange::Tuple(TupleRange {
+    let parts = TupleParts {
         scheme,
-        from: 0,
-        to: host.len(),
         port: asked / 65_536,
+    };
+    let o = OriginRange::Tuple(TupleRange {
+        parts,
+        host: TextRange {
+            from: 0,
+            to: host.len(),
+        },
     });
     admission_code(settled::admits(d, feature, asked % 2 == 1, host, o))
 }
@@ -124,55 +129,57 @@ fn refused_numbers(r: Refusal) -> Numbers
     }
 }
 
-fn new_numbers(a: NewAnswer) -> Numbers
+fn new_numbers(a: Result<(), Refusal>) -> Numbers
     ensures { result ≡ new_numbers a }
 {
     match a {
-        NewAnswer::Ready => Numbers {
+        Ok(()) => Numbers {
             refusal: 0,
             value: 0,
             second: 0,
         },
-        NewAnswer::Refused(r) => refused_numbers(r),
+        Err(r) => refused_numbers(r),
     }
 }
 
-fn question_numbers(a: QuestionAnswer) -> Numbers
+fn question_numbers(a: Result<Decision, Refusal>) -> Numbers
     ensures { result ≡ numbers_of (question_in a) }
 {
     match a {
-        QuestionAnswer::Enabled => Numbers {
-            refusal: 0,
-            value: ENABLED,
-            second: 0,
+        Ok(decision) => match decision {
+            Decision::Enabled => Numbers {
+                refusal: 0,
+                value: ENABLED,
+                second: 0,
+            },
+            Decision::Disabled => Numbers {
+                refusal: 0,
+                value: DISABLED,
+                second: 0,
+            },
         },
-        QuestionAnswer::Disabled => Numbers {
-            refusal: 0,
-            value: DISABLED,
-            second: 0,
-        },
-        QuestionAnswer::Refused(r) => refused_numbers(r),
+        Err(r) => refused_numbers(r),
     }
 }
 
-fn features_numbers(a: FeaturesAnswer) -> Numbers
+fn features_numbers(a: Result<u32, Refusal>) -> Numbers
     ensures { result ≡ numbers_of (features_in a) }
 {
     match a {
-        FeaturesAnswer::Features(m) => Numbers {
+        Ok(m) => Numbers {
             refusal: 0,
             value: m,
             second: 0,
         },
-        FeaturesAnswer::Refused(r) => refused_numbers(r),
+        Err(r) => refused_numbers(r),
     }
 }
 
-fn load_numbers(a: LoadAnswer) -> Numbers
+fn load_numbers(a: Result<LoadedDocument, Refusal>) -> Numbers
     ensures { result ≡ numbers_of (load_in a) }
 {
     match a {
-        LoadAnswer::Loaded(d) => {
+        Ok(d) => {
             if d.malformed {
                 return Numbers {
                     refusal: 0,
@@ -186,7 +193,7 @@ fn load_numbers(a: LoadAnswer) -> Numbers
                 second: 0,
             }
         }
-        LoadAnswer::Refused(r) => refused_numbers(r),
+        Err(r) => refused_numbers(r),
     }
 }
 
@@ -197,31 +204,31 @@ fn narrow(n: usize) -> u32
     n as u32
 }
 
-fn unload_numbers(a: UnloadAnswer) -> Numbers
+fn unload_numbers(a: Result<usize, Refusal>) -> Numbers
     requires { removed_by a ≤ document_limit }
     ensures { result ≡ numbers_of (unload_in a) }
 {
     match a {
-        UnloadAnswer::Removed(n) => Numbers {
+        Ok(n) => Numbers {
             refusal: 0,
             value: narrow(n),
             second: 0,
         },
-        UnloadAnswer::Refused(r) => refused_numbers(r),
+        Err(r) => refused_numbers(r),
     }
 }
 
-fn listing_numbers(a: ListingAnswer) -> Numbers
+fn listing_numbers(a: Result<usize, Refusal>) -> Numbers
     requires { listed_by a ≤ document_limit }
     ensures { result ≡ listing_numbers a }
 {
     match a {
-        ListingAnswer::Count(n) => Numbers {
+        Ok(n) => Numbers {
             refusal: 0,
             value: narrow(n),
             second: 0,
         },
-        ListingAnswer::Refused(r) => refused_numbers(r),
+        Err(r) => refused_numbers(r),
     }
 }
 

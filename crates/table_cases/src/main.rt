@@ -6,7 +6,8 @@ ghost use Rattle.documents.specs.Answers.{Valid};
 
 use document_loads::FrameMarks;
 use document_table::TABLE_BYTES;
-use documents::{FeaturesAnswer, ListingAnswer, LoadAnswer, NewAnswer, UnloadAnswer};
+use documents::LoadedDocument;
+use limits::Refusal;
 use std::io;
 
 const OUT: usize = 2048;
@@ -22,31 +23,34 @@ fn tell(rt: &impl Print, name: &[u8], answer: &[u8]) -> io::Result<()> {
     rt.write_all(b"\n")
 }
 
-fn tell_load(rt: &impl Print, name: &[u8], a: LoadAnswer) -> io::Result<()> {
+// Writes a case's name and an answer, by what puts that into a run.
+fn tell_put<F: FnOnce(&mut [u8]) -> usize>(rt: &impl Print, name: &[u8], put: F) -> io::Result<()>
+    requires { F.IsAlwaysCallable put }
+{
     let mut out = [0u8; OUT];
-    let n = replay_answers::put_load(&mut out, 0, a);
+    let n = put(&mut out);
     tell(rt, name, ascii::part(&out, 0, n))
 }
 
-fn tell_features(rt: &impl Print, name: &[u8], a: FeaturesAnswer) -> io::Result<()> {
-    let mut out = [0u8; OUT];
-    let n = replay_answers::put_features(&mut out, 0, a);
-    tell(rt, name, ascii::part(&out, 0, n))
+fn tell_load(rt: &impl Print, name: &[u8], a: Result<LoadedDocument, Refusal>) -> io::Result<()> {
+    tell_put(rt, name, |out| replay_answers::put_load(out, 0, a))
 }
 
-fn tell_unload(rt: &impl Print, name: &[u8], a: UnloadAnswer) -> io::Result<()> {
-    let mut out = [0u8; OUT];
-    let n = replay_answers::put_unload(&mut out, 0, a);
-    tell(rt, name, ascii::part(&out, 0, n))
+fn tell_features(rt: &impl Print, name: &[u8], a: Result<u32, Refusal>) -> io::Result<()> {
+    tell_put(rt, name, |out| replay_answers::put_features(out, 0, a))
 }
 
 // A listing's answer, and every place of the lent run.
-fn tell_listing(rt: &impl Print, name: &[u8], a: ListingAnswer, run: &[u32]) -> io::Result<()> {
-    let mut out = [0u8; OUT];
-    let n = replay_answers::put_listing(&mut out, 0, a, run);
-    tell(rt, name, ascii::part(&out, 0, n))?;
-    let all = replay_answers::put_listing(&mut out, 0, ListingAnswer::Count(run.len()), run);
-    tell(rt, b"  the lent run", ascii::part(&out, 0, all))
+fn tell_listing(
+    rt: &impl Print,
+    name: &[u8],
+    a: Result<usize, Refusal>,
+    run: &[u32],
+) -> io::Result<()> {
+    tell_put(rt, name, |out| replay_answers::put_listing(out, 0, a, run))?;
+    tell_put(rt, b"  the lent run", |out| {
+        replay_answers::put_listing(out, 0, Ok(run.len()), run)
+    })
 }
 
 // A frame of the first document, with marks and a sandbox text, arriving where its src points.
@@ -195,11 +199,10 @@ fn listings(rt: &impl Print, run: &mut [u8]) -> io::Result<()>
     list(rt, b"in two places", run, &mut enough)?;
     let mut more = [7u32; 4];
     list(rt, b"in four places", run, &mut more)?;
-    tell_unload(
-        rt,
-        b"an unload of a serial to come",
-        documents::unload(run, 9),
-    )?;
+    let unloaded = documents::unload(run, 9);
+    tell_put(rt, b"an unload of a serial to come", |out| {
+        replay_answers::put_unload(out, 0, unloaded)
+    })?;
     let mut again = [7u32; 4];
     list(rt, b"the listing after it", run, &mut again)
 }
@@ -256,7 +259,7 @@ fn last_word(rt: &impl Print, run: &mut [u8]) -> io::Result<()>
 // A new table in a lent run, and the cases on it.
 fn session(rt: &impl Print, name: &[u8], run: &mut [u8]) -> io::Result<()> {
     match documents::new_table(run) {
-        NewAnswer::Ready => {
+        Ok(()) => {
             tell(rt, name, b"ready")?;
             frames(rt, run)?;
             more_frames(rt, run)?;
@@ -264,29 +267,13 @@ fn session(rt: &impl Print, name: &[u8], run: &mut [u8]) -> io::Result<()> {
             last_keyword(rt, run)?;
             last_word(rt, run)
         }
-        NewAnswer::Refused(n) => tell_load(rt, name, LoadAnswer::Refused(n)),
-    }
-}
-
-// Every byte of a run becomes the same one.
-fn fill(run: &mut [u8], b: u8) {
-    let mut i: usize = 0;
-    while i < run.len() {
-        run[i] = b;
-        i += 1;
+        Err(n) => tell_load(rt, name, Err(n)),
     }
 }
 
 // Whether every byte of a run is that one.
 fn is_full(run: &[u8], b: u8) -> bool {
-    let mut i: usize = 0;
-    while i < run.len() {
-        if run[i] != b {
-            return false;
-        }
-        i += 1;
-    }
-    true
+    run.iter().all(|x| *x == b)
 }
 
 fn tell_bytes(rt: &impl Print, name: &[u8], run: &[u8], b: u8) -> io::Result<()> {
@@ -335,7 +322,7 @@ fn long_runs(rt: &impl Print, memory: &mut [u8]) -> io::Result<()> {
     tell_past(rt, memory, 255)?;
     session(rt, b"a new table in 4 MiB, over the last one", memory)?;
     tell_past(rt, memory, 255)?;
-    fill(memory, 0);
+    memory.fill(0);
     session(rt, b"a new table in 4 MiB of zeros", memory)?;
     tell_past(rt, memory, 0)
 }

@@ -6,7 +6,6 @@ ghost use Rattle.std.specs.Io.{ReadsAtMost};
 use limits::TEXT_BYTES;
 use std::io;
 use std::io::Read;
-use tidying::TidyAnswer;
 
 // What is left of the input is read in pieces of so many bytes.
 const REST_BYTES: usize = 4096;
@@ -37,8 +36,8 @@ fn read_input(input: &mut impl Read, run: &mut [u8]) -> io::Result<usize>
 fn answer(rt: &impl Print, header: &[u8]) -> io::Result<()> {
     let mut out = [0u8; TEXT_BYTES];
     match tidying::tidy(header, &mut out) {
-        TidyAnswer::Length(n) => rt.write_all(ascii::part(&out, 0, n))?,
-        TidyAnswer::Refused(r) => rt.print(limits::refusal_number(r))?,
+        Ok(n) => rt.write_all(ascii::part(&out, 0, n))?,
+        Err(r) => rt.print(limits::refusal_number(r))?,
     }
     rt.write_all(b"\n")
 }

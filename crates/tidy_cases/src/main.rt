@@ -4,7 +4,6 @@
 ghost use Rattle.std.specs.Prelude.{◌<◌};
 
 use std::io;
-use tidying::TidyAnswer;
 
 // The lent runs hold this byte before a call; no tidied form has it.
 const OLD: u8 = b'#';
@@ -15,45 +14,86 @@ fn put(rt: &impl Print, s: &[u8]) -> io::Result<()> {
 
 // How many bytes of a run are the old ones.
 fn old_bytes(run: &[u8]) -> usize {
-    let mut n: usize = 0;
-    let mut i: usize = 0;
-    while i < run.len() {
-        if run[i] == OLD {
-            n += 1;
-        }
-        i += 1;
-    }
-    n
+    run.iter().filter(|b| **b == OLD).count()
 }
 
-// Adds a text to a buffer; the answer is the place past it.
-fn push(buf: &mut [u8], at: usize, t: &[u8]) -> usize {
-    let mut o = at;
-    let mut j: usize = 0;
-    while j < t.len() {
-        if buf.len() <= o {
-            return o;
-        }
-        buf[o] = t[j];
-        o += 1;
-        j += 1;
-    }
-    o
+// A header that grows, as far as there is room.
+#[derive(Drop)]
+struct Header {
+    bytes: [u8; 4200],
+    len: usize,
 }
 
-// Adds a byte so many times.
-fn repeat(buf: &mut [u8], at: usize, b: u8, times: usize) -> usize {
-    let mut o = at;
-    let mut j: usize = 0;
-    while j < times {
-        if buf.len() <= o {
-            return o;
+impl Header {
+    fn new() -> Header {
+        Header {
+            bytes: [b' '; 4200],
+            len: 0,
         }
-        buf[o] = b;
-        o += 1;
-        j += 1;
     }
-    o
+
+    fn text(&self) -> &[u8] {
+        ascii::part(&self.bytes, 0, self.len)
+    }
+
+    // Adds a text, as much of it as has room.
+    fn push(&mut self, t: &[u8]) {
+        let from = self.len.min(4200);
+        let n = t.len().min(4200 - from);
+        self.bytes[from..from + n].copy_from_slice(&t[..n]);
+        self.len = from + n;
+    }
+
+    // Adds a byte so many times, as often as has room.
+    fn repeat(&mut self, b: u8, times: usize) {
+        let from = self.len.min(4200);
+        let n = times.min(4200 - from);
+        self.bytes[from..from + n].fill(b);
+        self.len = from + n;
+    }
+
+    // Adds an expression whose host is so many bytes of one letter.
+    fn push_expression(&mut self, letter: u8, length: usize) {
+        self.push(b"\"https://");
+        self.repeat(letter, length);
+        self.push(b"\"");
+    }
+
+    // Adds two expressions, of two letters.
+    fn push_pair(&mut self, letter: u8, first: usize, second: usize)
+        requires { letter < 255 }
+    {
+        self.push_expression(letter, first);
+        self.push(b" ");
+        self.push_expression(letter + 1, second);
+    }
+
+    // Adds four expressions with the longest hosts, of four letters, and a space behind each pair.
+    fn push_four(&mut self, letter: u8)
+        requires { letter < 253 }
+    {
+        self.push_pair(letter, 253, 253);
+        self.push(b" ");
+        self.push_pair(letter + 2, 253, 253);
+        self.push(b" ");
+    }
+
+    // `camera=(` and twelve expressions: 8 + 12 * 264 bytes.
+    fn push_twelve(&mut self) {
+        self.push(b"camera=(");
+        self.push_four(b'a');
+        self.push_four(b'e');
+        self.push_four(b'i');
+    }
+
+    // camera with sixteen expressions, the thirteenth with a host of so many bytes and those after it with hosts of so many: 3,176 + 43 + 1 bytes and these.
+    fn push_camera(&mut self, first: usize, others: usize) {
+        self.push_twelve();
+        self.push_pair(b'm', first, others);
+        self.push(b" ");
+        self.push_pair(b'o', others, others);
+        self.push(b")");
+    }
 }
 
 // Tidies a header into a lent run of so many bytes, and tells the answer, how many lent bytes are unchanged, and the text where it is short.
@@ -61,7 +101,7 @@ fn tidy_into(rt: &impl Print, name: &[u8], header: &[u8], run: &mut [u8]) -> io:
     put(rt, name)?;
     put(rt, b": ")?;
     match tidying::tidy(header, run) {
-        TidyAnswer::Length(n) => {
+        Ok(n) => {
             put(rt, b"length ")?;
             rt.print(n)?;
             if n < 64 {
@@ -69,7 +109,7 @@ fn tidy_into(rt: &impl Print, name: &[u8], header: &[u8], run: &mut [u8]) -> io:
                 put(rt, ascii::part(run, 0, n))?;
             }
         }
-        TidyAnswer::Refused(r) => {
+        Err(r) => {
             put(rt, b"refused ")?;
             rt.print(limits::refusal_number(r))?;
         }
@@ -98,93 +138,34 @@ fn short_runs(rt: &impl Print) -> io::Result<()> {
 
 // `camera=*` and spaces, so many bytes in all.
 fn spaces(rt: &impl Print, name: &[u8], length: usize) -> io::Result<()> {
-    let mut buf = [b' '; 4200];
-    push(&mut buf, 0, b"camera=*");
-    tidy_wide(rt, name, ascii::part(&buf, 0, length))
-}
-
-// Adds an expression whose host is so many bytes of one letter.
-fn push_expression(buf: &mut [u8], at: usize, letter: u8, length: usize) -> usize {
-    let a = push(buf, at, b"\"https://");
-    let b = repeat(buf, a, letter, length);
-    push(buf, b, b"\"")
-}
-
-// Adds two expressions, of two letters.
-fn push_pair(buf: &mut [u8], at: usize, letter: u8, first: usize, second: usize) -> usize
-    requires { letter < 255 }
-{
-    let a = push_expression(buf, at, letter, first);
-    let b = push(buf, a, b" ");
-    push_expression(buf, b, letter + 1, second)
-}
-
-// Adds four expressions with the longest hosts, of four letters, and a space behind each pair.
-fn push_four(buf: &mut [u8], at: usize, letter: u8) -> usize
-    requires { letter < 253 }
-{
-    let a = push_pair(buf, at, letter, 253, 253);
-    let b = push(buf, a, b" ");
-    let c = push_pair(buf, b, letter + 2, 253, 253);
-    push(buf, c, b" ")
-}
-
-// Adds `camera=(` and twelve expressions: 8 + 12 * 264 bytes.
-fn push_twelve(buf: &mut [u8]) -> usize {
-    let a = push(buf, 0, b"camera=(");
-    let b = push_four(buf, a, b'a');
-    let c = push_four(buf, b, b'e');
-    push_four(buf, c, b'i')
-}
-
-// The last two expressions.
-fn push_rest(buf: &mut [u8], at: usize, others: usize) -> usize {
-    let a = push(buf, at, b" ");
-    let b = push_pair(buf, a, b'o', others, others);
-    push(buf, b, b")")
-}
-
-// camera with sixteen expressions, the thirteenth with a host of so many bytes and those after it with hosts of so many: 3,176 + 43 + 1 bytes and these.
-fn push_camera(buf: &mut [u8], first: usize, others: usize) -> usize {
-    let a = push_twelve(buf);
-    let b = push_pair(buf, a, b'm', first, others);
-    push_rest(buf, b, others)
+    let mut header = Header::new();
+    header.push(b"camera=*");
+    let written = header.len;
+    header.repeat(b' ', length.saturating_sub(written));
+    tidy_wide(rt, name, header.text())
 }
 
 // 02, R-4: 4,096 bytes for a tidied form. Here it is the header itself, into runs of several lengths.
 fn longest_form(rt: &impl Print) -> io::Result<()> {
-    let mut buf = [0u8; 4200];
-    let n = push_camera(&mut buf, 219, 219);
-    tidy_wide(rt, b"a form of 4096", ascii::part(&buf, 0, n))?;
+    let mut header = Header::new();
+    header.push_camera(219, 219);
+    let text = header.text();
+    tidy_wide(rt, b"a form of 4096", text)?;
     let mut short = [OLD; 4095];
-    tidy_into(
-        rt,
-        b"a form of 4096 into a run of 4095",
-        ascii::part(&buf, 0, n),
-        &mut short,
-    )?;
+    tidy_into(rt, b"a form of 4096 into a run of 4095", text, &mut short)?;
     let mut enough = [OLD; 4096];
-    tidy_into(
-        rt,
-        b"a form of 4096 into a run of 4096",
-        ascii::part(&buf, 0, n),
-        &mut enough,
-    )
+    tidy_into(rt, b"a form of 4096 into a run of 4096", text, &mut enough)
 }
 
 // A header of 4,096 bytes whose form has a space more.
 fn longer_form(rt: &impl Print) -> io::Result<()> {
-    let mut buf = [0u8; 4200];
-    let n = push_camera(&mut buf, 219, 217);
-    let k = push(&mut buf, n, b",usb=*");
-    tidy_wide(rt, b"a form of 4097", ascii::part(&buf, 0, k))?;
+    let mut header = Header::new();
+    header.push_camera(219, 217);
+    header.push(b",usb=*");
+    let text = header.text();
+    tidy_wide(rt, b"a form of 4097", text)?;
     let mut none = [OLD; 0];
-    tidy_into(
-        rt,
-        b"a form of 4097 into a run of 0",
-        ascii::part(&buf, 0, k),
-        &mut none,
-    )
+    tidy_into(rt, b"a form of 4097 into a run of 0", text, &mut none)
 }
 
 fn main(rt: HostRuntime) -> io::Result<()> {

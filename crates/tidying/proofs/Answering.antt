@@ -1,9 +1,11 @@
 -- The answer of tidying, test by test. Assumes nothing.
+use Rattle.limits.specs.declared.Refusal.{Refusal}
+use Rattle.std.specs.Prelude.{Result, Ok, Err}
 use mathlib.Core.Path.{◌≡◌, refl, ap, ◌∙◌, sym}
 use Prim.Native.Nat.{ℕ, zero, suc, ◌+◌, ◌≤◌, ◌<◌}
 use mathlib.Core.List.{List, []}
 use mathlib.Core.Bool.{Bool, true, false}
-use mathlib.Core.Option.{Option}
+use Rattle.std.specs.Prelude.{Option}
 use native.Mathlib.Omega.{arith}
 use lib.ListN.{length, take, drop, take-append-drop}
 use lib.Dec.{ltb}
@@ -19,19 +21,18 @@ use Rattle.declarations.specs.Declarations.{declares}
 use Rattle.settled.specs.Settled.{head_bytes, declared_in}
 use Rattle.settling.specs.Promises.{Answer, IsSettledIn, IsSettled}
 use Rattle.settling.specs.declared.SettledHeader.{SettledHeader}
-use Rattle.settling.specs.declared.Settled.{Settled}
-use Rattle.settling.specs.declared.Settled.TheVariants as settled
+use Rattle.settling.specs.declared.SettleError.{SettleError}
+use Rattle.settling.specs.declared.SettleError.TheVariants as error
 use Rattle.tidying.specs.Tidied.{tidy_from, tidy_members, tidied}
 use Rattle.tidying.specs.Writing.{Holds, Adding}
+use Rattle.tidying.specs.declared.Text.{Text}
 use Rattle.tidying.specs.Answers.{tidy_answer, run_after, IsTidied}
 use Rattle.writing.specs.Writing.{Puts}
 use Rattle.writing.proofs.Laws.{puts_whole, puts-after}
-use Rattle.tidying.specs.declared.TidyAnswer.{TidyAnswer}
-use Rattle.tidying.specs.declared.TidyAnswer.TheVariants as answer
 
 -- an empty text is held at first
-holds-none : (l : List ℕ) → Holds l 0 []
-holds-none l = record { fits = λ h. (refl, refl); over = λ h. absurd (omega arith) }
+holds-none : (l : Text) → l.len ≡ 0 → Holds l []
+holds-none l z = record { fits = λ h. (z, rw z refl); over = λ h. absurd (omega arith) }
 
 -- what declares the same is written the same
 from-same : (c d : ℕ → Option Allowlist) → ((n : ℕ) → c n ≡ d n) → (n k : ℕ) → tidy_from c n k ≡ tidy_from d n k
@@ -57,21 +58,21 @@ unfolding pick
 header-test true c e = clash cc
 header-test false c e = refl
 
-module _ (s run before after : List ℕ) (r : Settled) (g : IsSettled s before after r) where
+module _ (s run before after : List ℕ) (r : Result SettledHeader SettleError) (g : IsSettled s before after r) where
   -- 4 for the input
-  pub input-long : r ≡ settled.TooLong → IsTidied s run run (answer.Refused TooLong)
+  pub input-long : r ≡ Err error.TooLong → IsTidied s run run (Err TooLong)
   unfolding tidy_answer run_after pick
   input-long k =
       let t : ltb text_bytes (length s) ≡ true = long-test (ltb text_bytes (length s)) (ltb (length before) (head_bytes + length s)) (rw k at g.which) in
       record { answer = rw t; bytes = refl }
 
   -- there is room for every header
-  pub never-small : length before ≡ head_bytes + text_bytes → (z : List ℕ) (x : TidyAnswer) → r ≡ settled.NoRoom → IsTidied s run z x
+  pub never-small : length before ≡ head_bytes + text_bytes → (z : List ℕ) (x : Result ℕ Refusal) → r ≡ Err error.NoRoom → IsTidied s run z x
   never-small h z x k =
       let t = small-tests (ltb text_bytes (length s)) (ltb (length before) (head_bytes + length s)) (rw k at g.which) in
       absurd (omega (arith, ltb-false text_bytes (length s) t.0, ltb-true (length before) (head_bytes + length s) t.1))
 
-  module _ (f : SettledHeader) (k : r ≡ settled.Header f) where
+  module _ (f : SettledHeader) (k : r ≡ Ok f) where
     short : ltb text_bytes (length s) ≡ false
     short = header-test (ltb text_bytes (length s)) (ltb (length before) (head_bytes + length s)) (rw k at g.which)
 
@@ -79,7 +80,7 @@ module _ (s run before after : List ℕ) (r : Settled) (g : IsSettled s before a
     i = g.header f k
 
     -- 8
-    pub malformed : f.malformed ≡ true → IsTidied s run run (answer.Refused NotADictionary)
+    pub malformed : f.malformed ≡ true → IsTidied s run run (Err NotADictionary)
     unfolding tidy_answer run_after pick
     malformed m = record { answer = rw (short, ← i.malformed, m); bytes = refl }
 
@@ -91,37 +92,36 @@ module _ (s run before after : List ℕ) (r : Settled) (g : IsSettled s before a
     unfolding tidied
     written_same = ap written (from-same (declared_in after) (declares s) says 0 feature_count)
 
-    module _ (m : f.malformed ≡ false) (l z : List ℕ) (n : ℕ) (a : Adding l 0 (written (tidy_members (declared_in after))) z n) where
-      held : Holds z n (tidied s)
-      held = rw written_same at (a.holds [] (holds-none l))
+    module _ (m : f.malformed ≡ false) (l z : Text) (start : l.len ≡ 0) (a : Adding l (written (tidy_members (declared_in after))) z) where
+      held : Holds z (tidied s)
+      held = rw written_same at (a.holds [] (holds-none l start))
 
       -- 4 for the output
-      pub output-long : text_bytes < n → IsTidied s run run (answer.Refused TooLong)
+      pub output-long : text_bytes < z.len → IsTidied s run run (Err TooLong)
       unfolding tidy_answer run_after pick
       output-long u =
           record { answer = rw (short, ← i.malformed, m, lt-ltb text_bytes (length (tidied s)) (held.over u)); bytes = refl }
 
-      module _ (u : n ≤ text_bytes) where
-        room-is : length (tidied s) ≡ n
-        room-is = sym (held.fits u).0
+      module _ (t : List ℕ) (w : (z.len ≤ text_bytes) × (t ≡ take z.len z.bytes)) where
+        whole_is : t ≡ tidied s
+        whole_is = w.1 ∙ (held.fits w.0).1
+
+        whole-fits : length t ≤ text_bytes
+        whole-fits = omega (arith, w.0, ap length whole_is, (held.fits w.0).0)
 
         -- 9
-        pub run_short : length run < n → IsTidied s run run (answer.Refused Small)
+        pub run_short : length run < length t → IsTidied s run run (Err Small)
         unfolding tidy_answer run_after pick
-        run_short v =
-            let e : length (tidied s) ≡ n = room-is in
-            record { answer = rw (short, ← i.malformed, m, e, le-ltb text_bytes n u, lt-ltb (length run) n v); bytes = refl }
+        run_short v = record { answer = rw (short, ← i.malformed, m, ← whole_is, le-ltb text_bytes (length t) whole-fits, lt-ltb (length run) (length t) v); bytes = refl }
 
         -- the text, copied
-        pub written_out : (o : List ℕ) (q : ℕ) → n ≤ length run → Puts run 0 (take n z) o q → IsTidied s run o (answer.Length q)
+        pub written_out : (o : List ℕ) (q : ℕ) → length t ≤ length run → Puts run 0 t o q → IsTidied s run o (Ok q)
         unfolding tidy_answer run_after pick
         written_out o q v p =
-            let e : length (tidied s) ≡ n = room-is in
-            let t : Puts run 0 (tidied s) o q = rw (held.fits u).1 at p in
-            let h : 0 + length (tidied s) ≤ length run = omega arith in
-            let j : q ≡ n = omega (arith, puts-after run o 0 q (tidied s) t h) in
-            let k : 0 + length (tidied s) ≡ q = omega arith in
+            let h : 0 + length t ≤ length run = omega arith in
+            let j : q ≡ length t = omega (arith, puts-after run o 0 q t p h) in
+            let k : 0 + length t ≡ q = omega arith in
             record {
-              answer = rw (short, ← i.malformed, m, e, le-ltb text_bytes n u, le-ltb (length run) n v, j);
-              bytes = puts_whole run o 0 q (tidied s) t h ∙ rw k;
+              answer = rw (short, ← i.malformed, m, ← whole_is, le-ltb text_bytes (length t) whole-fits, le-ltb (length run) (length t) v, j);
+              bytes = rw (← whole_is) (puts_whole run o 0 q t p h ∙ rw k);
             }

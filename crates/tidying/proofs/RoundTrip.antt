@@ -3,7 +3,7 @@ use mathlib.Core.Path.{◌≡◌, refl, ap, ◌∙◌, sym}
 use Prim.Native.Nat.{ℕ, zero, suc, ◌+◌, ◌≤◌, ◌<◌}
 use mathlib.Core.List.{List, [], ◌∷◌, ◌++◌, map}
 use mathlib.Core.Bool.{Bool, true, false, ◌||◌}
-use mathlib.Core.Option.{Option, some, none}
+use Rattle.std.specs.Prelude.{Option, Some, None}
 use native.Mathlib.Omega.{arith}
 use lib.ListN.{length, drop}
 use lib.Dec.{ltb, eqb}
@@ -77,30 +77,30 @@ list-good false g = items-good g
 
 -- an allowlist whose expressions are such as a text can say, without a src-origin
 abbrev GoodList : Option Allowlist → Type 0
-GoodList (some all) = Unit {0}
-GoodList (some (listed own src es)) = (src ≡ false) × All GoodExpression es
-GoodList none = Unit {0}
+GoodList (Some all) = Unit {0}
+GoodList (Some (listed own src es)) = (src ≡ false) × All GoodExpression es
+GoodList None = Unit {0}
 
 declared-good : (s : List ℕ) (n : ℕ) → GoodList (declares s n)
 declared-good s n = go (declares s n) refl
   where
     go : (d : Option Allowlist) → declares s n ≡ d → GoodList d
-    go (some all) e = tt
-    go (some (listed own src es)) e = (declares-no-src s n own src es e, declares-good s n own src es e)
-    go none e = tt
+    go (Some all) e = tt
+    go (Some (listed own src es)) e = (declares-no-src s n own src es e, declares-good s n own src es e)
+    go None e = tt
 
-value-good : (l : Allowlist) → GoodList (some l) → GoodValue (tidy_value l)
+value-good : (l : Allowlist) → GoodList (Some l) → GoodValue (tidy_value l)
 unfolding tidy_value
 value-good all g = star-good
 value-good (listed own src es) g = list-good own (good-list g.1)
 
-member-good : (n : ℕ) (l : Allowlist) → n < feature_count → GoodList (some l) → GoodMember (record { key = name_of n; value = tidy_value l })
+member-good : (n : ℕ) (l : Allowlist) → n < feature_count → GoodList (Some l) → GoodMember (record { key = name_of n; value = tidy_value l })
 member-good n l h g = record { key = record { starts = name-starts n h; bytes = name-bytes n h }; value = value-good l g }
 
 with-good : (n : ℕ) (d : Option Allowlist) (ms : List Plain) → n < feature_count → GoodList d → AllGood ms → AllGood (with_member n d ms)
 unfolding with_member
-with-good n (some l) ms h g gs = and (member-good n l h g) gs
-with-good n none ms h g gs = gs
+with-good n (Some l) ms h g gs = and (member-good n l h g) gs
+with-good n None ms h g gs = gs
 
 from-good : (d : ℕ → Option Allowlist) → ((n : ℕ) → GoodList (d n)) → (n k : ℕ) → n + k ≤ feature_count → AllGood (tidy_from d n k)
 unfolding tidy_from
@@ -108,24 +108,24 @@ from-good d g n zero h = empty
 from-good d g n (suc k) h = with-good n (d n) (tidy_from d (suc n) k) (omega arith) (g n) (from-good d g (suc n) k (omega arith))
 
 -- so the tidied form has just these members
-pub tidied-members : (s : List ℕ) → members (tidied s) ≡ some (tidy_members (declares s))
+pub tidied-members : (s : List ℕ) → members (tidied s) ≡ Some (tidy_members (declares s))
 unfolding tidied
 tidied-members s = written_back (tidy_members (declares s)) (from-good (declares s) (declared-good s) 0 feature_count (omega arith))
 
 -- the last value of a feature's name among them: names are distinct
 abbrev value_in : Option Allowlist → Option Value → Option Value
-value_in (some l) v = some (tidy_value l)
-value_in none v = v
+value_in (Some l) v = Some (tidy_value l)
+value_in None v = v
 
 other-fold : (d : Option Allowlist) (i j : ℕ) (v : Option Value) (ms : List Plain) → i < feature_count → j < feature_count → (i ≡ j → ⊥) → into (later (name_of j)) v (with_member i d ms) ≡ into (later (name_of j)) v ms
 unfolding with_member
-other-fold (some l) i j v ms h g e = fold-other (name_of j) v (record { key = name_of i; value = tidy_value l }) ms (other_name i j h g e)
-other-fold none i j v ms h g e = refl
+other-fold (Some l) i j v ms h g e = fold-other (name_of j) v (record { key = name_of i; value = tidy_value l }) ms (other_name i j h g e)
+other-fold None i j v ms h g e = refl
 
 same_fold : (d : Option Allowlist) (i : ℕ) (v : Option Value) (ms : List Plain) → into (later (name_of i)) v (with_member i d ms) ≡ into (later (name_of i)) (value_in d v) ms
 unfolding with_member
-same_fold (some l) i v ms = fold_same (name_of i) v (record { key = name_of i; value = tidy_value l }) ms (same-bytes (name_of i))
-same_fold none i v ms = refl
+same_fold (Some l) i v ms = fold_same (name_of i) v (record { key = name_of i; value = tidy_value l }) ms (same-bytes (name_of i))
+same_fold None i v ms = refl
 
 -- past a feature its name comes no more
 past-fold : (d : ℕ → Option Allowlist) (j : ℕ) (v : Option Value) (n k : ℕ) → j < n → n + k ≤ feature_count → into (later (name_of j)) v (tidy_from d n k) ≡ v
@@ -133,40 +133,40 @@ unfolding tidy_from
 past-fold d j v n zero h g = fold-nil (name_of j) v
 past-fold d j v n (suc k) h g = other-fold (d n) n j v (tidy_from d (suc n) k) (omega arith) (omega arith) (λ e. omega arith) ∙ past-fold d j v (suc n) k (omega arith) (omega arith)
 
-find-fold : (d : ℕ → Option Allowlist) (j : ℕ) (n k : ℕ) → n ≤ j → j < n + k → n + k ≤ feature_count → into (later (name_of j)) none (tidy_from d n k) ≡ value_in (d j) none
+find-fold : (d : ℕ → Option Allowlist) (j : ℕ) (n k : ℕ) → n ≤ j → j < n + k → n + k ≤ feature_count → into (later (name_of j)) None (tidy_from d n k) ≡ value_in (d j) None
 unfolding tidy_from
 find-fold d j n zero h g m = absurd (omega arith)
 find-fold d j n (suc k) h g m = go (eqb n j) refl (λ a. find-fold d j (suc n) k a (omega arith) (omega arith))
   where
-    go : (b : Bool) → eqb n j ≡ b → (suc n ≤ j → into (later (name_of j)) none (tidy_from d (suc n) k) ≡ value_in (d j) none) → into (later (name_of j)) none (with_member n (d n) (tidy_from d (suc n) k)) ≡ value_in (d j) none
+    go : (b : Bool) → eqb n j ≡ b → (suc n ≤ j → into (later (name_of j)) None (tidy_from d (suc n) k) ≡ value_in (d j) None) → into (later (name_of j)) None (with_member n (d n) (tidy_from d (suc n) k)) ≡ value_in (d j) None
     go true e ih =
         let q : n ≡ j = eqb-true n j e in
-        rw q (same_fold (d j) j none (tidy_from d (suc j) k) ∙ past-fold d j (value_in (d j) none) (suc j) k (omega arith) (omega arith))
+        rw q (same_fold (d j) j None (tidy_from d (suc j) k) ∙ past-fold d j (value_in (d j) None) (suc j) k (omega arith) (omega arith))
     go false e ih =
         let q : n ≡ j → ⊥ = eqb-false n j e in
-        other-fold (d n) n j none (tidy_from d (suc n) k) (omega arith) (omega arith) q ∙ ih (omega arith)
+        other-fold (d n) n j None (tidy_from d (suc n) k) (omega arith) (omega arith) q ∙ ih (omega arith)
 
 -- what a tidied header declares, feature by feature: the same with normal forms, each once
 abbrev canonical : Option Allowlist → Option Allowlist
-canonical (some all) = some all
-canonical (some (listed own src es)) = some (listed own false (normals_of es))
-canonical none = none
+canonical (Some all) = Some all
+canonical (Some (listed own src es)) = Some (listed own false (normals_of es))
+canonical None = None
 
-value-back : (l : Allowlist) → GoodList (some l) → value_declares (tidy_value l) ≡ canonical (some l)
+value-back : (l : Allowlist) → GoodList (Some l) → value_declares (tidy_value l) ≡ canonical (Some l)
 unfolding tidy_value self_item
 value-back all g = star-back
 value-back (listed true src es) g = self-list-back (normals_of es) (good-list g.1)
 value-back (listed false src es) g = list_back (normals_of es) (good-list g.1)
 
-last-is : (s : List ℕ) (n : ℕ) → n < feature_count → last_value_in (name_of n) (some (tidy_members (declares s))) ≡ some (value_in (declares s n) none)
-last-is s n h = last-fold (name_of n) (tidy_members (declares s)) ∙ ap some (find-fold (declares s) n 0 feature_count (omega arith) (omega arith) (omega arith))
+last-is : (s : List ℕ) (n : ℕ) → n < feature_count → last_value_in (name_of n) (Some (tidy_members (declares s))) ≡ Some (value_in (declares s n) None)
+last-is s n h = last-fold (name_of n) (tidy_members (declares s)) ∙ ap Some (find-fold (declares s) n 0 feature_count (omega arith) (omega arith) (omega arith))
 
 tidied-declares : (s : List ℕ) (n : ℕ) → n < feature_count → declares (tidied s) n ≡ canonical (declares s n)
 tidied-declares s n h = go (declares s n) (declared-good s n) (last-is s n h)
   where
-    go : (d : Option Allowlist) → GoodList d → last_value_in (name_of n) (some (tidy_members (declares s))) ≡ some (value_in d none) → declares (tidied s) n ≡ canonical d
-    go (some l) g e = declares-value (tidied s) n (tidy_members (declares s)) (tidied-members s) (tidy_value l) e ∙ value-back l g
-    go none g e = declares-none (tidied s) n (tidy_members (declares s)) (tidied-members s) e
+    go : (d : Option Allowlist) → GoodList d → last_value_in (name_of n) (Some (tidy_members (declares s))) ≡ Some (value_in d None) → declares (tidied s) n ≡ canonical d
+    go (Some l) g e = declares-value (tidied s) n (tidy_members (declares s)) (tidied-members s) (tidy_value l) e ∙ value-back l g
+    go None g e = declares-none (tidied s) n (tidy_members (declares s)) (tidied-members s) e
 
 -- normal forms, each once, stay as they are
 among-at : (e f : SourceExpression) (es : List SourceExpression) → same_expression e f ≡ true → among e es ≡ among f es
@@ -226,9 +226,9 @@ tidied-good s = members-good (tidied s) (tidy_members (declares s)) (tidied-memb
 
 -- ... and declares the same policy
 same-policy : (d : Option Allowlist) → GoodList d → SamePolicy d (canonical d)
-same-policy (some all) g = everything
-same-policy (some (listed own src es)) g = rw g.0 (lists own es (normals_of es) (sym (normals-once es)))
-same-policy none g = undeclared
+same-policy (Some all) g = everything
+same-policy (Some (listed own src es)) g = rw g.0 (lists own es (normals_of es) (sym (normals-once es)))
+same-policy None g = undeclared
 
 pub tidied-same : (s : List ℕ) (n : ℕ) → n < feature_count → SamePolicy (declares s n) (declares (tidied s) n)
 tidied-same s n h = rw (tidied-declares s n h) (same-policy (declares s n) (declared-good s n))
@@ -284,7 +284,7 @@ any-normals es o =
     sym (or-false (any_admits (normals_of es) o)) ∙ ((rw (any-nil o) at k) ∙ (or-false (any_admits (map normal es) o) ∙ any-normal es o))
 
 -- hence the same policy admits the same origins, whatever the self-origin and the src-origin are
-same-by : {a b : Option Allowlist} → SamePolicy a b → (l m : Allowlist) → a ≡ some l → b ≡ some m → (mine theirs : Bool) (o : Origin) → list_admits l mine theirs o ≡ list_admits m mine theirs o
+same-by : {a b : Option Allowlist} → SamePolicy a b → (l m : Allowlist) → a ≡ Some l → b ≡ Some m → (mine theirs : Bool) (o : Origin) → list_admits l mine theirs o ≡ list_admits m mine theirs o
 same-by undeclared l m e f mine theirs o = clash cc
 same-by everything l m e f mine theirs o =
     let p : all ≡ l = cc in
@@ -296,7 +296,7 @@ same-by (lists b es fs n) l m e f mine theirs o =
     let k : any_admits es o ≡ any_admits fs o = sym (any-normals es o) ∙ (ap (λ (x : List SourceExpression). any_admits x o) n ∙ any-normals fs o) in
     rw (← p, ← q, listed-admits b false es mine theirs o, listed-admits b false fs mine theirs o, k)
 
-pub same-admits : (l m : Allowlist) → SamePolicy (some l) (some m) → (own declared o : Origin) → allows l own declared o ≡ allows m own declared o
+pub same-admits : (l m : Allowlist) → SamePolicy (Some l) (Some m) → (own declared o : Origin) → allows l own declared o ≡ allows m own declared o
 same-admits l m h own declared o = same-by h l m refl refl (same_origin own o) (same_origin declared o) o
 
 same-answers : {a b : Option Allowlist} → SamePolicy a b → (mine theirs : Bool) (o : Origin) → some_admits a mine theirs o ≡ some_admits b mine theirs o
@@ -313,9 +313,9 @@ tidied-admits s n h own o =
 -- demand 2: and tidies to the same bytes
 value_same : (d : Option Allowlist) (n : ℕ) (ms : List Plain) → with_member n (canonical d) ms ≡ with_member n d ms
 unfolding with_member tidy_value
-value_same (some all) n ms = refl
-value_same (some (listed own src es)) n ms = rw (normals-once es)
-value_same none n ms = refl
+value_same (Some all) n ms = refl
+value_same (Some (listed own src es)) n ms = rw (normals-once es)
+value_same None n ms = refl
 
 from-same : (s : List ℕ) (n k : ℕ) → n + k ≤ feature_count → tidy_from (declares (tidied s)) n k ≡ tidy_from (declares s) n k
 unfolding tidy_from

@@ -7,7 +7,8 @@ use Rattle.hashes.specs.Hashes.{hash_of}
 use Rattle.settled.specs.Settled.{expressions_from}
 use Rattle.tidying.specs.Tidied.{among, unless, normals_of, source_item}
 use Rattle.tidying.specs.Writing.{Adding}
-use Rattle.tidying.specs.declared.Added.{Added}
+use Rattle.tidying.specs.declared.Text.{Text}
+use Rattle.tidying.specs.declared.Index.{Index}
 
 -- texts with a separator before each, but for the first of all
 unfoldable pub following : Bool → List ℕ → List (List ℕ) → List ℕ
@@ -18,10 +19,10 @@ unfoldable pub is_some : {A : Type 0} → List A → Bool
 is_some [] = false
 is_some (x ∷ xs) = true
 
--- texts were added after others, or as the first
-pub record Spelling (sep before : List ℕ) (at : ℕ) (any : Bool) (ts : List (List ℕ)) (after : List ℕ) (r : Added) : Type 0 where
-  pub text : Adding before at (following any sep ts) after r.to
-  pub some : r.any ≡ any || is_some ts
+-- texts were added after others, or as the first; and whether a text stands before the next one
+pub record Spelling (sep : List ℕ) (before : Text) (any : Bool) (ts : List (List ℕ)) (after : Text) (r : Bool) : Type 0 where
+  pub text : Adding before (following any sep ts) after
+  pub some : r ≡ any || is_some ts
 
 -- an expression's normal form as a string
 abbrev pub source_text : SourceExpression → List ℕ
@@ -40,6 +41,6 @@ pub record Passed (d : List ℕ) (first i p : ℕ) : Type 0 where
   pub is : (k : ℕ) → expressions_from (i + k) (drop first d) ≡ expressions_from i (drop first d) ++ expressions_from k (drop p d)
 
 -- the index of a list after so many of its expressions, as far as it has room: the hashes of their normal forms, and their places
-pub record Indexed (d : List ℕ) (first n : ℕ) (hashes places : List ℕ) : Type 0 where
-  pub hashed : (j : ℕ) → j ≤ n → j ≤ length hashes → take j hashes ≡ map hash_of (map normal (expressions_from j (drop first d)))
-  pub placed : (j : ℕ) → j < n → j < length places → Passed d first j (get_or places j 0)
+pub record Indexed (d : List ℕ) (first n : ℕ) (x : Index) : Type 0 where
+  pub hashed : (j : ℕ) → j ≤ n → j ≤ length x.hashes → take j x.hashes ≡ map hash_of (map normal (expressions_from j (drop first d)))
+  pub placed : (j : ℕ) → j < n → j < length x.places → Passed d first j (get_or x.places j 0)

@@ -1,6 +1,6 @@
 -- 01, "Tidied headers".
 use Rattle.std.specs.Prelude.{ℕ, zero, suc, ◌≡◌, List, [], ◌∷◌, ◌++◌, map, Bool, true, false, ◌||◌}
-use Rattle.std.proofs.Math.Option.{Option, some, none}
+use Rattle.std.specs.Prelude.{Option, Some, None}
 use Rattle.ascii.specs.Literals.{text}
 use Rattle.features.specs.Features.{name_of, feature_count}
 use Rattle.origins.specs.Expressions.{SourceExpression}
@@ -49,8 +49,8 @@ tidy_value (listed own src es) = many (self_item own ++ map source_item (normals
 
 -- a declared feature's member before others
 unfoldable pub with_member : ℕ → Option Allowlist → List Plain → List Plain
-with_member n (some l) ms = record { key = name_of n; value = tidy_value l } ∷ ms
-with_member n none ms = ms
+with_member n (Some l) ms = record { key = name_of n; value = tidy_value l } ∷ ms
+with_member n None ms = ms
 
 -- of so many features from a number on
 unfoldable pub tidy_from : (ℕ → Option Allowlist) → ℕ → ℕ → List Plain
@@ -68,6 +68,6 @@ tidied s = written (tidy_members (declares s))
 -- demand 2: "declares the same policy": both undeclared, both `*`, or lists with `self` in both or in neither, whose expressions have the same
 -- normal forms, repetitions dropped, in the same order
 pub data SamePolicy : Option Allowlist → Option Allowlist → Type 0 where
-  undeclared : SamePolicy none none
-  everything : SamePolicy (some all) (some all)
-  lists : (own : Bool) (es fs : List SourceExpression) → normals_of es ≡ normals_of fs → SamePolicy (some (listed own false es)) (some (listed own false fs))
+  undeclared : SamePolicy None None
+  everything : SamePolicy (Some all) (Some all)
+  lists : (own : Bool) (es fs : List SourceExpression) → normals_of es ≡ normals_of fs → SamePolicy (Some (listed own false es)) (Some (listed own false fs))

@@ -14,5 +14,5 @@ returns-in-SrcOrigin c = search admits-src
 pub returns-in-Source : goal.returns-in-Source
 returns-in-Source c = search admits-source
 
-pub returns-in-Nothing : goal.returns-in-Nothing
-returns-in-Nothing c = search admits-nothing
+pub returns-in_default : goal.returns-in_default
+returns-in_default c = search admits-nothing

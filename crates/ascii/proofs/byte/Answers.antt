@@ -1,10 +1,8 @@
--- `byte` is right: inside the text the element is the head of what stands there; past the end nothing stands there.
-use Rattle.std.proofs.Common.{arith, rules}
-use Rattle.ascii.proofs.Reading.{byte-in, byte-out}
+-- `byte` is right: the library finds what stands at the place, or nothing past the end.
+use Rattle.std.proofs.Common.{◌∙◌, ap, arith}
+use Rattle.std.specs.Prelude.{unwrap_or}
+use Rattle.ascii.proofs.Library.{byte-found}
 use Rattle.ascii.proofs.byte.Goals as goal
 
-pub returns-then-at-s : goal.returns-then-at-s
-returns-then-at-s c = record { is = search byte-in; there = omega (arith, c.type_inv.s c.args.at) }
-
-pub returns-else-at-s : goal.returns-else-at-s
-returns-else-at-s c = record { is = search byte-out; there = search rules }
+pub returns : goal.returns
+returns c = byte-found _ _ _ c.unwrap_or.type_inv (c.unwrap_or.ensures ∙ (ap (λ o. unwrap_or o 0) c.copied.ensures ∙ c.get.ensures.lookup.4 (omega arith) 0))

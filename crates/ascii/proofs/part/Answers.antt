@@ -1,12 +1,7 @@
--- `part` is right: the two tests are the definition's, and each answer is the definition's part.
-use Rattle.ascii.proofs.Texts.{part-in, part_turned, part-over}
+-- `part` is right: a range that lies in the text has the definition's part, and any other none.
+use Rattle.std.proofs.Common.{refl}
+use Rattle.ascii.proofs.Library.{part-found}
 use Rattle.ascii.proofs.part.Goals as goal
 
-pub returns-then-to-from : goal.returns-then-to-from
-returns-then-to-from c = search (part-in, part_turned, part-over)
-
-pub returns-then-s-to : goal.returns-then-s-to
-returns-then-s-to c = search (part-in, part_turned, part-over)
-
 pub returns : goal.returns
-returns c = search (part-in, part_turned, part-over)
+returns c = part-found _ _ _ c.get.result _ _ c.get.ensures.lookup.0 refl c.unwrap_or.ensures

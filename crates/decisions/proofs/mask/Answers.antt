@@ -1,16 +1,16 @@
-use Rattle.std.proofs.Common.{refl, rules}
+use Rattle.std.proofs.Common.{refl}
 use Rattle.decisions.specs.Masks.{mask_below}
-use Rattle.decisions.proofs.Masks.{turn-enabled, turn-disabled, turns-end}
+use Rattle.decisions.proofs.Masks.{turn-enabled, turn-disabled}
 use Rattle.decisions.proofs.mask.Goals as goal
+use Rattle.decisions.proofs.mask.Goals.{in-Enabled, in-Disabled}
 
-pub loop-i-init : goal.loop-i-init
-loop-i-init c = (search rules, search rules, unfold mask_below in refl)
+pub loop-n-init : goal.loop-n-init
+unfolding mask_below
+loop-n-init g c = λ p h. refl
 
-pub loop-i-preserved-in-Enabled : goal.loop-i-preserved-in-Enabled
-loop-i-preserved-in-Enabled c = (search rules, search rules, search turn-enabled)
-
-pub loop-i-preserved : goal.loop-i-preserved
-loop-i-preserved c = (search rules, search rules, search turn-disabled)
-
-pub returns : goal.returns
-returns c = search turns-end
+pub loop-n-preserved : goal.loop-n-preserved
+loop-n-preserved g c = λ p h.
+    elim c.match-decide.branch [
+      | in-Enabled w ↦ turn-enabled p _ _ _ (c.loop-n.invariant p h) c.loop-n-test.true (h _ _ c.loop-n-test.true w.in-Enabled.ensures) w.r-is
+      | in-Disabled w ↦ turn-disabled p _ _ _ (c.loop-n.invariant p h) (h _ _ c.loop-n-test.true w.in-Disabled.ensures) w.r-is
+    ]

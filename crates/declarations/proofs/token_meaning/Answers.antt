@@ -8,5 +8,5 @@ returns-then-same c = search token-star
 pub returns-then-same-2 : goal.returns-then-same-2
 returns-then-same-2 c = search token-self
 
-pub returns : goal.returns
-returns c = search token-nothing
+pub returns-else-same-2 : goal.returns-else-same-2
+returns-else-same-2 c = search token-nothing

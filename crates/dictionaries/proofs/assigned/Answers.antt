@@ -4,17 +4,9 @@ use Rattle.dictionaries.specs.Dictionaries.{assigned_of}
 use Rattle.dictionaries.proofs.Values.{values}
 use Rattle.dictionaries.proofs.assigned.Goals as goal
 
-pub value-requires : goal.value-requires
-unfolding assigned_of
-value-requires c = omega highs
-
 pub returns-then-byte-eq61 : goal.returns-then-byte-eq61
 unfolding assigned_of
 returns-then-byte-eq61 c = record { is = search values; left = search reads depth 9 fits 20000; from = omega lows; upto = omega highs }
-
-pub bare_key-requires : goal.bare_key-requires
-unfolding assigned_of
-bare_key-requires c = omega highs
 
 pub returns : goal.returns
 unfolding assigned_of

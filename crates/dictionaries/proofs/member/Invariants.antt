@@ -4,7 +4,7 @@ use Rattle.dictionaries.proofs.Lookup.{SoFar}
 use Rattle.dictionaries.proofs.member.Given as goal
 
 abbrev pub invariant-loop-m : goal.invariant-loop-m
-invariant-loop-m l = SoFar l.s l.key l.best l.cursor
+invariant-loop-m l = SoFar l.s l.key l.newest l.cursor
 
 abbrev pub decreases-loop-m : goal.decreases-loop-m
 decreases-loop-m l = 2 ^ 64 - l.cursor

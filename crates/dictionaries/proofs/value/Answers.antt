@@ -4,17 +4,9 @@ use Rattle.dictionaries.specs.Dictionaries.{value_of}
 use Rattle.dictionaries.proofs.Values.{values}
 use Rattle.dictionaries.proofs.value.Goals as goal
 
-pub list_value-requires : goal.list_value-requires
-unfolding value_of
-list_value-requires c = omega highs
-
 pub returns-then-byte-eq40 : goal.returns-then-byte-eq40
 unfolding value_of
 returns-then-byte-eq40 c = record { is = search values; left = search reads depth 9 fits 20000; from = omega lows; upto = omega highs }
-
-pub item_value-requires : goal.item_value-requires
-unfolding value_of
-item_value-requires c = omega highs
 
 pub returns : goal.returns
 unfolding value_of

@@ -3,8 +3,8 @@ use Rattle.std.proofs.Common.{refl, arith}
 use Rattle.document_loads.proofs.Framing.{is_top}
 use Rattle.document_loads.proofs.top_document.Goals as goal
 
-pub small-length-requires : goal.small-length-requires
-small-length-requires c = omega (arith, c.arrive-a.ensures.short)
+pub overflow_cast-result : goal.overflow_cast-result
+overflow_cast-result c = omega (arith, c.arrive-a.ensures.short)
 
 pub returns : goal.returns
-returns c = is_top _ _ _ _ _ c.arrive-a.result refl refl c.arrive-a.ensures c.small-length.ensures
+returns c = is_top _ _ _ _ c.arrive-a.result refl refl c.arrive-a.ensures

@@ -1,13 +1,9 @@
 -- `free_slots` is right: a number a turn.
-use Rattle.std.proofs.Common.{◌≡◌, ◌≤◌, ◌-◌, length}
+use Rattle.std.proofs.Common.{◌≡◌, length}
 use Rattle.writing.specs.Writing.{with_text}
-use Rattle.limits.specs.Limits.{document_limit}
 use Rattle.document_model.specs.Model.{values_from}
 use Rattle.document_table.specs.Layout.{slot_numbers_place}
 use Rattle.document_table.proofs.free_slots.Given as goal
 
 abbrev pub invariant-loop-i : goal.invariant-loop-i
-invariant-loop-i l = (l.i ≤ document_limit) × (length l.run ≡ length l.initial.run) × (l.run ≡ with_text l.initial.run slot_numbers_place (values_from (λ n. n) 0 l.i))
-
-abbrev pub decreases-loop-i : goal.decreases-loop-i
-decreases-loop-i l = document_limit - l.i
+invariant-loop-i l = (length l.run ≡ length l.initial.run) × (l.run ≡ with_text l.initial.run slot_numbers_place (values_from (λ n. n) 0 l.i))

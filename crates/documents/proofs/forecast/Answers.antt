@@ -1,5 +1,4 @@
 -- `forecast` is right: each return is a row of the definition, in its order.
-use Rattle.std.proofs.Common.{rules}
 use Rattle.documents.proofs.Answering.{valid-ascends, found_below}
 use Rattle.documents.proofs.Forecasts.{forecast_allow, forecast_sandbox, forecast-origin, answered-forecast, refused-forecast}
 use Rattle.documents.proofs.forecast.Goals as goal
@@ -10,17 +9,17 @@ returns-then-allow-gt-TEXT_BYTES c = search forecast_allow
 pub returns-then-sandbox-gt-TEXT_BYTES : goal.returns-then-sandbox-gt-TEXT_BYTES
 returns-then-sandbox-gt-TEXT_BYTES c = search forecast_sandbox
 
-pub returns-then-is_bad : goal.returns-then-is_bad
-returns-then-is_bad c = search forecast-origin
+pub returns-then-is_none : goal.returns-then-is_none
+returns-then-is_none c = search forecast-origin
 
 pub find-requires : goal.find-requires
-find-requires c = (search rules, search valid-ascends)
+find-requires c = search valid-ascends
 
-pub slot-c-requires : goal.slot-c-requires
-slot-c-requires c = (search rules, search found_below)
+pub slot-requires : goal.slot-requires
+slot-requires c = search found_below
 
-pub returns-in-At : goal.returns-in-At
-returns-in-At c = search answered-forecast
+pub returns : goal.returns
+returns c = search answered-forecast
 
-pub returns-in-None : goal.returns-in-None
-returns-in-None c = search refused-forecast
+pub returns-in_default : goal.returns-in_default
+returns-in_default c = search refused-forecast

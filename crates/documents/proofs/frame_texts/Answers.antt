@@ -11,11 +11,11 @@ returns-then-allow-gt-TEXT_BYTES c = search texts-allow
 pub returns-then-sandbox-gt-TEXT_BYTES : goal.returns-then-sandbox-gt-TEXT_BYTES
 returns-then-sandbox-gt-TEXT_BYTES c = search texts-sandbox
 
-pub returns-then-is_bad : goal.returns-then-is_bad
-returns-then-is_bad c = search texts-origin
+pub returns-then-is_none : goal.returns-then-is_none
+returns-then-is_none c = search texts-origin
 
-pub returns-then-is_bad-2 : goal.returns-then-is_bad-2
-returns-then-is_bad-2 c = search texts-src
+pub returns-then-is_none-2 : goal.returns-then-is_none-2
+returns-then-is_none-2 c = search texts-src
 
 pub returns : goal.returns
 returns c = search texts-good

@@ -1,5 +1,5 @@
 -- `is_enabled` is right: the numbers first, then by what the text says.
-use Rattle.documents.proofs.Asking.{at_every, at-empty, at_null, at-bad, at_tuple, asks-tuple}
+use Rattle.documents.proofs.Asking.{at_every, at-empty, at_null, at_tuple, asks-tuple}
 use Rattle.documents.proofs.is_enabled.Goals as goal
 
 pub returns-then-bit : goal.returns-then-bit
@@ -16,6 +16,3 @@ returns-in-Null c = search at_null
 
 pub returns-in-Tuple : goal.returns-in-Tuple
 returns-in-Tuple c = search at_tuple
-
-pub returns-in-NotAnOrigin : goal.returns-in-NotAnOrigin
-returns-in-NotAnOrigin c = search at-bad

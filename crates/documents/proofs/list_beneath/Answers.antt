@@ -4,13 +4,13 @@ use Rattle.documents.proofs.Answering.{valid-ascends, small-listing, answered-li
 use Rattle.documents.proofs.list_beneath.Goals as goal
 
 pub find-requires : goal.find-requires
-find-requires c = (search rules, search valid-ascends)
+find-requires c = search valid-ascends
+
+pub returns-in_default : goal.returns-in_default
+returns-in_default c = (search refused-listing, omega arith)
 
 pub returns-then-out-n : goal.returns-then-out-n
 returns-then-out-n c = (search small-listing, omega arith)
 
-pub returns-else-out-n : goal.returns-else-out-n
-returns-else-out-n c = (search answered-listing, search rules)
-
-pub returns-in-None : goal.returns-in-None
-returns-in-None c = (search refused-listing, omega arith)
+pub returns : goal.returns
+returns c = (search answered-listing, search rules)

@@ -6,4 +6,4 @@ pub framed_document-d-requires : goal.framed_document-d-requires
 framed_document-d-requires c = c.slot-c.ensures.good
 
 pub returns : goal.returns
-returns c = loads-at _ c.args.p _ _ _ _ c.args.marks _ _ _ c.framed_document-d.result _ c.place.result c.slot-c.ensures c.framed_document-d.ensures c.place.ensures
+returns c = loads-at _ c.args.p _ _ _ c.args.frame.now _ c.framed_document-d.result _ c.place.result c.slot-c.ensures c.framed_document-d.ensures c.place.ensures

@@ -4,10 +4,10 @@ use Rattle.documents.proofs.Answering.{valid-ascends, answered-unload, refused-u
 use Rattle.documents.proofs.unload.Goals as goal
 
 pub find-requires : goal.find-requires
-find-requires c = (search rules, search valid-ascends)
+find-requires c = search valid-ascends
 
-pub returns-in-At : goal.returns-in-At
-returns-in-At c = (search answered-unload, search rules)
+pub returns : goal.returns
+returns c = (search answered-unload, search rules)
 
-pub returns-in-None : goal.returns-in-None
-returns-in-None c = (search refused-unload, omega arith)
+pub returns-in_default : goal.returns-in_default
+returns-in_default c = (search refused-unload, omega arith)

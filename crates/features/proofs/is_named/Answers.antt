@@ -1,14 +1,8 @@
 -- `is_named` is right: a word of 4 to 16 bytes is told by its two numbers, and the two other names are compared byte by byte.
 use Rattle.std.proofs.Common.{arith}
 use Rattle.features.proofs.Packing.{Bytes}
-use Rattle.features.proofs.Names.{under-four, over_sixteen, text-length, text-test, packed-test}
+use Rattle.features.proofs.Names.{under-four, over_sixteen, text-test, packed-test}
 use Rattle.features.proofs.is_named.Goals as goal
-
-pub same_bytes-requires : goal.same_bytes-requires
-same_bytes-requires c = search (text-length, under-four)
-
-pub same_bytes-requires-then-word-gt16 : goal.same_bytes-requires-then-word-gt16
-same_bytes-requires-then-word-gt16 c = search (text-length, over_sixteen)
 
 pub returns-then-word-lt4 : goal.returns-then-word-lt4
 returns-then-word-lt4 c = search (text-test, under-four)

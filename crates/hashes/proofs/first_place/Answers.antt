@@ -1,4 +1,4 @@
-use Rattle.std.proofs.Common.{zero-add, rules}
+use Rattle.std.proofs.Common.{zero-add}
 use Rattle.hashes.proofs.Steps.{place-hit, place-on, place_end, place_none}
 use Rattle.hashes.proofs.first_place.Goals as goal
 
@@ -6,13 +6,13 @@ pub returns-then-all_other : goal.returns-then-all_other
 returns-then-all_other c = search place_none
 
 pub loop-i-init : goal.loop-i-init
-loop-i-init c = (search rules, search zero-add)
+loop-i-init c = search zero-add
 
-pub returns-then-numbers-i : goal.returns-then-numbers-i
-returns-then-numbers-i c = search place-hit
+pub returns-then-n-x : goal.returns-then-n-x
+returns-then-n-x c = search place-hit
 
 pub loop-i-preserved : goal.loop-i-preserved
-loop-i-preserved c = (search rules, search place-on)
+loop-i-preserved c = search place-on
 
 pub returns : goal.returns
 returns c = search place_end

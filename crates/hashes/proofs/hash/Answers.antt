@@ -2,8 +2,8 @@
 use Rattle.hashes.proofs.Steps.{hash-none, hash-any, hash-exact, hash-subdomains}
 use Rattle.hashes.proofs.hash.Goals as goal
 
-pub returns-in-None : goal.returns-in-None
-returns-in-None c = search hash-none
+pub returns-in_default : goal.returns-in_default
+returns-in_default c = search hash-none
 
 pub returns-in-Any : goal.returns-in-Any
 returns-in-Any c = search hash-any

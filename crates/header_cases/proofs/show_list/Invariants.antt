@@ -2,8 +2,8 @@
 use Rattle.std.proofs.Common.{◌≤◌, ◌-◌, ◌^◌}
 use Rattle.header_cases.proofs.show_list.Given as goal
 
-abbrev pub invariant-loop-f : goal.invariant-loop-f
-invariant-loop-f g l = l.at ≤ 2 ^ 64
+abbrev pub invariant-loop-found : goal.invariant-loop-found
+invariant-loop-found g l = l.at ≤ 2 ^ 64
 
-abbrev pub decreases-loop-f : goal.decreases-loop-f
-decreases-loop-f g l = 2 ^ 64 - l.at
+abbrev pub decreases-loop-found : goal.decreases-loop-found
+decreases-loop-found g l = 2 ^ 64 - l.at

@@ -1,20 +1,19 @@
 -- Each answer follows the tests of the two bytes in the order of the definition.
-use Rattle.ascii.proofs.Reading.{reads, lows, highs}
-use Rattle.items.specs.Items.{boolean_of}
+use Rattle.std.proofs.Common.{◌+◌, ◌<◌, length, refl}
+use Rattle.ascii.proofs.Reading.{class-within, reads, lows, highs}
+use Rattle.items.specs.Items.{is_truth, boolean_of}
 use Rattle.items.proofs.boolean.Goals as goal
 
 pub returns-then-byte-ne63 : goal.returns-then-byte-ne63
 unfolding boolean_of
 returns-then-byte-ne63 c = record { is = search reads depth 9 fits 20000; past = omega lows; upto = omega highs }
 
-pub returns-then-b-eq48 : goal.returns-then-b-eq48
+pub returns-then-b : goal.returns-then-b
 unfolding boolean_of
-returns-then-b-eq48 c = record { is = search reads depth 9 fits 20000; past = omega lows; upto = omega highs }
+returns-then-b c =
+    let h : c.args.at + 1 < length c.args.s.now = class-within is_truth c.args.s.now (c.args.at + 1) c.byte-b.result _ c.byte-b.ensures.there refl refl c.if-b.true in
+    record { is = search reads depth 9 fits 20000; past = omega lows; upto = omega highs }
 
-pub returns-then-b-eq49 : goal.returns-then-b-eq49
+pub returns-else-b : goal.returns-else-b
 unfolding boolean_of
-returns-then-b-eq49 c = record { is = search reads depth 9 fits 20000; past = omega lows; upto = omega highs }
-
-pub returns : goal.returns
-unfolding boolean_of
-returns c = record { is = search reads depth 9 fits 20000; past = omega lows; upto = omega highs }
+returns-else-b c = record { is = search reads depth 9 fits 20000; past = omega lows; upto = omega highs }

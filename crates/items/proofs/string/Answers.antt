@@ -7,10 +7,6 @@ pub returns-then-byte-ne34 : goal.returns-then-byte-ne34
 unfolding string_of
 returns-then-byte-ne34 c = record { is = search reads depth 9 fits 20000; past = omega lows; upto = omega highs }
 
-pub string_rest-requires : goal.string_rest-requires
-unfolding string_of
-string_rest-requires c = omega highs
-
 pub returns : goal.returns
 unfolding string_of
 returns c = record { is = search reads depth 9 fits 20000; past = omega lows; upto = omega highs }

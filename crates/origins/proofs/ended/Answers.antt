@@ -1,9 +1,6 @@
--- `ended` is right: each arm is a case of the definition.
-use Rattle.origins.proofs.HostEnds.{ended-none, ended-at}
+-- `ended` is right: a host ends where no label was to start.
+use Rattle.origins.proofs.HostEnds.{ended-is}
 use Rattle.origins.proofs.ended.Goals as goal
 
-pub returns-then-starts : goal.returns-then-starts
-returns-then-starts c = search ended-none
-
-pub returns-else-starts : goal.returns-else-starts
-returns-else-starts c = search ended-at
+pub returns : goal.returns
+returns c = search ended-is

@@ -1,10 +1,6 @@
 -- `host_end` is right: at each place the scan of what is left up to the colon is that of the whole.
-use Rattle.std.proofs.Common.{◌-◌, length}
 use Rattle.origins.proofs.HostEnds.{Scanning}
 use Rattle.origins.proofs.host_end.Given as goal
 
 abbrev pub invariant-loop-i : goal.invariant-loop-i
 invariant-loop-i l = Scanning l.s l.from l.i l.starts
-
-abbrev pub decreases-loop-i : goal.decreases-loop-i
-decreases-loop-i l = length l.s - l.i

@@ -1,21 +1,23 @@
-use Rattle.std.proofs.Common.{ap, not, sym, rules}
+use Rattle.std.proofs.Common.{sym}
 use Rattle.origins.proofs.Hosts.{scan-labels, scan-end, scan-empty, scan-dot, scan-other, scan-byte}
 use Rattle.origins.proofs.labels_good.Goals as goal
+use Rattle.origins.proofs.labels_good.Goals.{then-b-eq46+else-starts, else-b-eq46+else-not-is_label_byte}
 
-pub loop-i-init : goal.loop-i-init
-loop-i-init c = (search rules, sym (scan-labels _))
+pub loop-c-init : goal.loop-c-init
+loop-c-init c = sym (scan-labels _)
 
 pub returns-then-starts : goal.returns-then-starts
-returns-then-starts c = scan-empty _ _ _ _ _ _ c.folded-b.ensures c.loop-i-test.true c.loop-i.invariant.1 c.if-b-eq46.true c.if-starts.true
-
-pub loop-i-preserved-then-b-eq46 : goal.loop-i-preserved-then-b-eq46
-loop-i-preserved-then-b-eq46 c = (search rules, scan-dot _ _ _ _ _ _ c.folded-b.ensures c.loop-i-test.true c.loop-i.invariant.1 c.if-b-eq46.true c.if-starts.false)
+returns-then-starts c = scan-empty _ _ _ _ _ _ c.lower-b.ensures c.loop-c-test.true c.loop-c.invariant c.if-b-eq46.true c.if-starts.true
 
 pub returns-then-not-is_label_byte : goal.returns-then-not-is_label_byte
-returns-then-not-is_label_byte c = scan-other _ _ _ _ _ _ c.folded-b.ensures c.loop-i-test.true c.loop-i.invariant.1 c.if-b-eq46.false _ c.is_label_byte.ensures (ap not c.if-not-is_label_byte.true)
+returns-then-not-is_label_byte c = scan-other _ _ _ _ _ _ c.lower-b.ensures c.loop-c-test.true c.loop-c.invariant c.if-b-eq46.false _ c.is_label_byte.ensures c.if-not-is_label_byte.true
 
-pub loop-i-preserved : goal.loop-i-preserved
-loop-i-preserved c = (search rules, scan-byte _ _ _ _ _ _ c.folded-b.ensures c.loop-i-test.true c.loop-i.invariant.1 c.if-b-eq46.false _ c.is_label_byte.ensures (ap not c.if-not-is_label_byte.false))
+pub loop-c-preserved : goal.loop-c-preserved
+loop-c-preserved c =
+    elim c.if-b-eq46.branch [
+      | then-b-eq46+else-starts w ↦ rw w.starts-is (scan-dot _ _ _ _ _ _ c.lower-b.ensures c.loop-c-test.true c.loop-c.invariant w.if-b-eq46.true w.if-starts.false)
+      | else-b-eq46+else-not-is_label_byte w ↦ rw w.starts-is (scan-byte _ _ _ _ _ _ c.lower-b.ensures c.loop-c-test.true c.loop-c.invariant w.if-b-eq46.false _ w.is_label_byte.ensures w.if-not-is_label_byte.false)
+    ]
 
 pub returns : goal.returns
-returns c = scan-end _ _ _ _ _ c.loop-i-test.false c.loop-i.invariant.1
+returns c = scan-end _ _ _ _ _ c.loop-c-test.false c.loop-c.invariant

@@ -1,15 +1,12 @@
--- `normal_port` is right: each arm is the clause of the definition.
-use Rattle.origins.proofs.NormalForms.{normal-default, normal-any, normal-dropped, normal-kept}
+-- `normal_port` is right: each arm is a clause of the definition.
+use Rattle.origins.proofs.NormalForms.{normal-dropped, normal-kept, normal-other}
 use Rattle.origins.proofs.normal_port.Goals as goal
-
-pub returns-in-Default : goal.returns-in-Default
-returns-in-Default c = search normal-default
-
-pub returns-in-Any : goal.returns-in-Any
-returns-in-Any c = search normal-any
 
 pub returns-then-is_dropped : goal.returns-then-is_dropped
 returns-then-is_dropped c = search normal-dropped
 
 pub returns-else-is_dropped : goal.returns-else-is_dropped
 returns-else-is_dropped c = search normal-kept
+
+pub returns-in_default : goal.returns-in_default
+returns-in_default c = search (normal-other, c.in_default.not-Number)

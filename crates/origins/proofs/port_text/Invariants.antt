@@ -4,6 +4,3 @@ use Rattle.origins.proofs.port_text.Given as goal
 
 abbrev pub invariant-loop-from : goal.invariant-loop-from
 invariant-loop-from l = Writing l.n l.bytes l.from l.left
-
-abbrev pub decreases-loop-from : goal.decreases-loop-from
-decreases-loop-from l = l.from

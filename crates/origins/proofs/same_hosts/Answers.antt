@@ -2,8 +2,8 @@
 use Rattle.origins.proofs.NormalForms.{hosts-none, hosts-any, hosts-exact, hosts-subdomains}
 use Rattle.origins.proofs.same_hosts.Goals as goal
 
-pub returns-in-None : goal.returns-in-None
-returns-in-None c = search hosts-none
+pub returns-in_default : goal.returns-in_default
+returns-in_default c = search hosts-none
 
 pub returns-in-Any : goal.returns-in-Any
 returns-in-Any c = search hosts-any

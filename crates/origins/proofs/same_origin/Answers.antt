@@ -1,24 +1,18 @@
--- `same_origin` is right: each arm of the matches is the clause of the definition.
-use Rattle.origins.proofs.Matches.{same-tuples, tuple-opaque, tuple-fresh, opaque-tuple, opaques, opaque-fresh, fresh-any}
+-- `same_origin` is right: two tuples and two opaque origins are compared, and all others differ.
+use Rattle.origins.proofs.Matches.{same-tuples, opaques, tuple-other, opaque-other, fresh-any}
 use Rattle.origins.proofs.same_origin.Goals as goal
 
-pub returns-in-Tuple-b : goal.returns-in-Tuple-b
-returns-in-Tuple-b c = search same-tuples
+pub returns-in-Tuple-Tuple : goal.returns-in-Tuple-Tuple
+returns-in-Tuple-Tuple c = search same-tuples
 
-pub returns-in-Opaque-b : goal.returns-in-Opaque-b
-returns-in-Opaque-b c = search tuple-opaque
+pub returns-in-Opaque-Opaque : goal.returns-in-Opaque-Opaque
+returns-in-Opaque-Opaque c = search opaques
 
-pub returns-in-Fresh-b : goal.returns-in-Fresh-b
-returns-in-Fresh-b c = search tuple-fresh
+pub returns-in_default : goal.returns-in_default
+returns-in_default c = search (tuple-other, c.in_default.not-Tuple-1)
 
-pub returns-in-Tuple-b-2 : goal.returns-in-Tuple-b-2
-returns-in-Tuple-b-2 c = search opaque-tuple
+pub returns-in_default-2 : goal.returns-in_default-2
+returns-in_default-2 c = search (opaque-other, c.in_default.not-Opaque-1)
 
-pub returns-in-Opaque-b-2 : goal.returns-in-Opaque-b-2
-returns-in-Opaque-b-2 c = search opaques
-
-pub returns-in-Fresh-b-2 : goal.returns-in-Fresh-b-2
-returns-in-Fresh-b-2 c = search opaque-fresh
-
-pub returns-in-Fresh : goal.returns-in-Fresh
-returns-in-Fresh c = search fresh-any
+pub returns-in_default-3 : goal.returns-in_default-3
+returns-in_default-3 c = search fresh-any

@@ -1,12 +1,9 @@
--- `same_tuple` is right: scheme, host and port are compared as in the definition.
-use Rattle.origins.proofs.Matches.{tuples-scheme, tuples-host, tuples-port}
+-- `same_tuple` is right: scheme and port are compared at once, and then the hosts.
+use Rattle.origins.proofs.Matches.{tuples-apart, tuples-hosts}
 use Rattle.origins.proofs.same_tuple.Goals as goal
 
-pub returns-then-not-same_scheme : goal.returns-then-not-same_scheme
-returns-then-not-same_scheme c = search tuples-scheme
+pub returns-then-eq : goal.returns-then-eq
+returns-then-eq c = search tuples-hosts
 
-pub returns-then-not-same : goal.returns-then-not-same
-returns-then-not-same c = search tuples-host
-
-pub returns : goal.returns
-returns c = search tuples-port
+pub returns-else-eq : goal.returns-else-eq
+returns-else-eq c = search tuples-apart

@@ -4,8 +4,8 @@ use Rattle.features.specs.Features.{feature_count}
 use Rattle.pieces.proofs.Finding.{Left}
 use Rattle.pieces.proofs.entries.Given as goal
 
-abbrev pub invariant-loop-i : goal.invariant-loop-i
-invariant-loop-i l = (l.i ≤ length l.s + 1) × (length l.found ≡ feature_count) × Left l.inside l.s l.i l.found
+abbrev pub invariant-loop-from : goal.invariant-loop-from
+invariant-loop-from g l = (l.from ≤ length l.s + 1) × (length l.found ≡ feature_count) × Left (g.K.Class.holds l.ends) l.s l.from l.found
 
-abbrev pub decreases-loop-i : goal.decreases-loop-i
-decreases-loop-i l = length l.s + 1 - l.i
+abbrev pub decreases-loop-from : goal.decreases-loop-from
+decreases-loop-from g l = length l.s + 1 - l.from

@@ -2,8 +2,8 @@
 use Rattle.pieces.proofs.Listing.{entry-words, entry-self, entry-src}
 use Rattle.pieces.proofs.entry_admits.Goals as goal
 
-pub returns-in-Word : goal.returns-in-Word
-returns-in-Word c = search entry-words
+pub returns-in-Some : goal.returns-in-Some
+returns-in-Some c = search entry-words
 
 pub returns-in-SelfOrigin : goal.returns-in-SelfOrigin
 returns-in-SelfOrigin c = search entry-self

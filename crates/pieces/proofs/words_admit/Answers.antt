@@ -1,15 +1,16 @@
-use Rattle.pieces.proofs.Cutting.{low-ends}
-use Rattle.pieces.proofs.Listing.{admit-end, admit-hit, admit-on}
+-- `words_admit` is right: a list of words admits an origin where one of them does.
+use Rattle.std.proofs.Common.{◌∙◌, sym, refl, rules}
+use borrow.Author.Tests.{tests}
+use Rattle.std.proofs.lemmas.Iterator.Search.{any_from_yields_List}
+use Rattle.std.proofs.lemmas.Iterator.Consumers.{YieldsList-from_first}
+use Rattle.origins.specs.Answers.{origin_in}
+use Rattle.allowlists.specs.Allowlists.{meaning_admits}
+use Rattle.pieces.specs.Pieces.{words}
+use Rattle.pieces.specs.Words.{word_meaning}
+use Rattle.pieces.proofs.Listing.{any-admits}
 use Rattle.pieces.proofs.words_admit.Goals as goal
 
-pub returns-then-word_admits : goal.returns-then-word_admits
-returns-then-word_admits c = search admit-hit
-
-pub loop-r-smaller : goal.loop-r-smaller
-loop-r-smaller c = omega low-ends
-
-pub loop-r-preserved : goal.loop-r-preserved
-loop-r-preserved c = search admit-on
-
-pub returns-in-None : goal.returns-in-None
-returns-in-None c = search admit-end
+pub returns : goal.returns
+returns c =
+    any_from_yields_List (λ w. meaning_admits (word_meaning w) c.args.is_self c.args.is_src (origin_in c.args.t.now c.args.o)) c.any.new.self _ _ c.any.ensures.ran (YieldsList-from_first (λ x. x.now) (λ w. words w.0.now) {s = record { 0 = c.args.s }} (words c.args.s.now) refl) (λ x b q k. search (rules, tests))
+    ∙ sym (any-admits (words c.args.s.now) c.args.is_self c.args.is_src (origin_in c.args.t.now c.args.o))

@@ -9,8 +9,8 @@ returns-then-serials-n c = search listings
 pub slice_bounds-put_serials-end : goal.slice_bounds-put_serials-end
 slice_bounds-put_serials-end c = simp length-take (omega arith)
 
-pub returns-in-Refused : goal.returns-in-Refused
-returns-in-Refused c = search listings
+pub returns-in-Err : goal.returns-in-Err
+returns-in-Err c = search listings
 
 pub returns-else-serials-n : goal.returns-else-serials-n
 returns-else-serials-n c = search listings

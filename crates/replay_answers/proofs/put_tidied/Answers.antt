@@ -6,11 +6,11 @@ use Rattle.replay_answers.proofs.put_tidied.Goals as goal
 pub returns-then-tidied-n : goal.returns-then-tidied-n
 returns-then-tidied-n c = search tidies
 
-pub slice_bounds-put-end-in-Length : goal.slice_bounds-put-end-in-Length
-slice_bounds-put-end-in-Length c = simp length-take (omega arith)
+pub slice_bounds-put-end-in-Ok : goal.slice_bounds-put-end-in-Ok
+slice_bounds-put-end-in-Ok c = simp length-take (omega arith)
 
-pub returns-in-Refused : goal.returns-in-Refused
-returns-in-Refused c = search tidies
+pub returns-in-Err : goal.returns-in-Err
+returns-in-Err c = search tidies
 
 pub returns-else-tidied-n : goal.returns-else-tidied-n
 returns-else-tidied-n c = search tidies

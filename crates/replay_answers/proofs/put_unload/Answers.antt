@@ -2,8 +2,8 @@
 use Rattle.replay_answers.proofs.Answering.{unloads}
 use Rattle.replay_answers.proofs.put_unload.Goals as goal
 
-pub returns-in-Refused : goal.returns-in-Refused
-returns-in-Refused c = search unloads
+pub returns-in-Err : goal.returns-in-Err
+returns-in-Err c = search unloads
 
-pub returns-in-Removed : goal.returns-in-Removed
-returns-in-Removed c = search unloads
+pub returns-in-Ok : goal.returns-in-Ok
+returns-in-Ok c = search unloads

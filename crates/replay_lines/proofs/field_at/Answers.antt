@@ -1,10 +1,9 @@
--- `field_at` is right: a place below the count has the field that stands there; past it nothing is said, as by a broken field.
-use Rattle.std.proofs.Common.{rules}
-use Rattle.replay_lines.proofs.FieldStates.{field-there, field_past}
+-- `field_at` is right: the library finds the field that stands at the place; past the last nothing is said, as by a broken field.
+use Rattle.std.proofs.Common.{◌∙◌, ap, arith}
+use Rattle.std.specs.Prelude.{unwrap_or}
+use Rattle.replay_lines.specs.Answers.{broken_field}
+use Rattle.replay_lines.proofs.FieldStates.{field-said}
 use Rattle.replay_lines.proofs.field_at.Goals as goal
 
-pub returns-then-j-fs : goal.returns-then-j-fs
-returns-then-j-fs c = field-there _ _ (search rules) c.requires c.if-j-fs.true
-
-pub returns-else-j-fs : goal.returns-else-j-fs
-returns-else-j-fs c = field_past _ _ (search rules) c.requires c.if-j-fs.false
+pub returns : goal.returns
+returns c = field-said _ _ _ (c.unwrap_or.ensures ∙ (ap (λ o. unwrap_or o broken_field) c.copied.ensures ∙ c.get.ensures.lookup.4 (omega arith) broken_field))

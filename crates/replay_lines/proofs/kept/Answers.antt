@@ -1,7 +1,7 @@
 -- `kept` is right: the bytes kept are the front of the field's part, no longer than the part.
-use Rattle.std.proofs.Common.{◌∙◌}
+use Rattle.std.proofs.Common.{◌∙◌, rules}
 use Rattle.replay_lines.proofs.Slots.{kept-part}
 use Rattle.replay_lines.proofs.kept.Goals as goal
 
 pub returns : goal.returns
-returns c = c.part.ensures ∙ rw c.least.ensures (kept-part _ _ c.requires.1 c.requires.0 _)
+returns c = c.part.ensures ∙ rw c.min.ensures (kept-part _ _ (search rules) c.requires _)

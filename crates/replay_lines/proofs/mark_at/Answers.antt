@@ -1,9 +1,10 @@
--- `mark_at` is right: of a field without a `%` the bytes kept are compared; any other is no mark.
-use Rattle.replay_lines.proofs.FieldReadings.{mark-some, mark-none}
+-- `mark_at` is right: the text of a field without a `%` is read as it stands.
+use Rattle.replay_lines.specs.Format.{mark_of}
+use Rattle.replay_lines.proofs.FieldReadings.{unread, read-as}
 use Rattle.replay_lines.proofs.mark_at.Goals as goal
 
-pub returns-then-is_literal : goal.returns-then-is_literal
-returns-then-is_literal c = search mark-some
+pub returns-in_err-text : goal.returns-in_err-text
+returns-in_err-text c = rw c.from_residual.ensures (unread mark_of _ _ c.literal.ensures.mark c.in_err-text.was)
 
-pub returns-else-is_literal : goal.returns-else-is_literal
-returns-else-is_literal c = search mark-none
+pub returns : goal.returns
+returns c = read-as mark_of _ _ c.literal.ensures.mark _ _ c.in_ok-text.was c.mark.ensures

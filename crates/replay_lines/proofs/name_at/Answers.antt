@@ -1,9 +1,10 @@
--- `name_at` is right: of a field without a `%` the bytes kept are compared; any other names nothing.
-use Rattle.replay_lines.proofs.FieldReadings.{name-some, name-none}
+-- `name_at` is right: the text of a field without a `%` is read as it stands.
+use Rattle.replay_lines.specs.Format.{name_of}
+use Rattle.replay_lines.proofs.FieldReadings.{unread, read-as}
 use Rattle.replay_lines.proofs.name_at.Goals as goal
 
-pub returns-then-is_literal : goal.returns-then-is_literal
-returns-then-is_literal c = search name-some
+pub returns-in_err-text : goal.returns-in_err-text
+returns-in_err-text c = rw c.from_residual.ensures (unread name_of _ _ c.literal.ensures.name c.in_err-text.was)
 
-pub returns-else-is_literal : goal.returns-else-is_literal
-returns-else-is_literal c = search name-none
+pub returns : goal.returns
+returns c = read-as name_of _ _ c.literal.ensures.name _ _ c.in_ok-text.was c.name.ensures

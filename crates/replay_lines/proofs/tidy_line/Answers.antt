@@ -3,18 +3,10 @@ use Rattle.replay_lines.specs.Format.{tidy_row}
 use Rattle.replay_lines.proofs.Choices.{rows}
 use Rattle.replay_lines.proofs.tidy_line.Goals as goal
 
-pub returns-then-fs-ne3 : goal.returns-then-fs-ne3
+pub returns-in_err-header : goal.returns-in_err-header
 unfolding tidy_row
-returns-then-fs-ne3 c = search rows depth 12 fits 20000
-
-pub returns-in_default : goal.returns-in_default
-unfolding tidy_row
-returns-in_default c = search rows depth 12 fits 20000
-
-pub returns-in_default-text_at : goal.returns-in_default-text_at
-unfolding tidy_row
-returns-in_default-text_at c = search rows depth 12 fits 20000
+returns-in_err-header c = rw c.from_residual-in_err-header.ensures (search (rows, c.in_ok-room.was, c.in_err-header.was) depth 12 fits 20000)
 
 pub returns : goal.returns
 unfolding tidy_row
-returns c = search rows depth 12 fits 20000
+returns c = search (rows, c.in_ok-room.was, c.in_ok-header.was) depth 12 fits 20000

@@ -3,14 +3,6 @@ use Rattle.replay_lines.specs.Format.{unload_row}
 use Rattle.replay_lines.proofs.Choices.{rows}
 use Rattle.replay_lines.proofs.unload_line.Goals as goal
 
-pub returns-then-fs-ne2 : goal.returns-then-fs-ne2
-unfolding unload_row
-returns-then-fs-ne2 c = search rows depth 12 fits 20000
-
-pub returns-in_default : goal.returns-in_default
-unfolding unload_row
-returns-in_default c = search rows depth 12 fits 20000
-
 pub returns : goal.returns
 unfolding unload_row
-returns c = search rows depth 12 fits 20000
+returns c = search (rows, c.in_ok-serial.was) depth 12 fits 20000

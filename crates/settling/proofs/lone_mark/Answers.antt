@@ -5,5 +5,5 @@ use Rattle.settling.proofs.lone_mark.Goals as goal
 pub returns-then-n : goal.returns-then-n
 returns-then-n c = search mark-none
 
-pub returns : goal.returns
-returns c = search mark-lone
+pub returns-else-n : goal.returns-else-n
+returns-else-n c = search mark-lone

@@ -1,15 +1,18 @@
 -- `put_expression` is right: its parts stand one after the other.
+use Rattle.std.proofs.Common.{arith}
 use Rattle.settling.proofs.Writes.{room-front, room-host, host-fits, port-fits, expression-wrote}
 use Rattle.settling.proofs.put_expression.Goals as goal
 
-pub small-requires : goal.small-requires
-small-requires c = search host-fits
+pub overflow_cast-host : goal.overflow_cast-host
+overflow_cast-host c = omega (arith, host-fits c.args.x.now _ c.args.e c.host_of-host.ensures c.requires.0.host)
 
-pub put_front-o-requires : goal.put_front-o-requires
-put_front-o-requires c = (search room-front, search port-fits)
+pub put-o-requires : goal.put-o-requires
+put-o-requires c = search room-front
 
 pub put_lowered-requires : goal.put_lowered-requires
 put_lowered-requires c = search room-host
 
 pub returns : goal.returns
-returns c = search expression-wrote
+returns c =
+    let fits = port-fits c.args.e.parts.port c.port_value.result c.requires.0.port c.port_value.ensures in
+    search expression-wrote

@@ -3,8 +3,8 @@ use Rattle.std.proofs.Common.{◌-◌, ◌^◌, ◌≡◌, length}
 use Rattle.settling.proofs.Listing.{Listing}
 use Rattle.settling.proofs.put_list.Given as goal
 
-abbrev pub invariant-loop-f : goal.invariant-loop-f
-invariant-loop-f l = (length l.d ≡ length l.initial.d) × Listing l.s l.first l.c l.initial.d l.at l.d l.n
+abbrev pub invariant-loop-found : goal.invariant-loop-found
+invariant-loop-found l = (length l.d ≡ length l.initial.d) × Listing l.s l.first l.c l.initial.d l.at l.d l.n
 
-abbrev pub decreases-loop-f : goal.decreases-loop-f
-decreases-loop-f l = 2 ^ 64 - l.c
+abbrev pub decreases-loop-found : goal.decreases-loop-found
+decreases-loop-found l = 2 ^ 64 - l.c

@@ -1,15 +1,7 @@
-use Rattle.std.proofs.Common.{arith, rules}
-use Rattle.settling.proofs.Writes.{low-start, low-room, low-more, low-all}
+-- `put_lowered` is right: what was put is turned to lower case where it stands.
+use Rattle.std.proofs.Common.{refl}
+use Rattle.settling.proofs.Writes.{wrote-lowered}
 use Rattle.settling.proofs.put_lowered.Goals as goal
 
-pub loop-j-init : goal.loop-j-init
-loop-j-init c = (omega arith, search rules, search low-start)
-
-pub put_byte-o-requires : goal.put_byte-o-requires
-put_byte-o-requires c = search low-room
-
-pub loop-j-preserved : goal.loop-j-preserved
-loop-j-preserved c = (omega arith, search rules, search low-more)
-
 pub returns : goal.returns
-returns c = search low-all
+returns c = wrote-lowered _ c.args.t.now _ _ _ _ _ c.put-to.ensures c.requires refl c.make_ascii_lowercase.ensures.after

@@ -9,11 +9,11 @@ returns-then-s-gt-TEXT_BYTES c = search answer-long
 pub returns-then-run-s : goal.returns-then-run-s
 returns-then-run-s c = search answer-small
 
+pub returns-then-not-is_dictionary : goal.returns-then-not-is_dictionary
+returns-then-not-is_dictionary c = search answer-malformed
+
 pub settle_members-w-requires : goal.settle_members-w-requires
 settle_members-w-requires c = (search rules, search rules, search clear-holds, search told-members)
 
-pub returns-then-is_dictionary : goal.returns-then-is_dictionary
-returns-then-is_dictionary c = search answer-header
-
 pub returns : goal.returns
-returns c = search answer-malformed
+returns c = search answer-header

@@ -6,8 +6,8 @@ use Rattle.settling.proofs.settle_member.Goals as goal
 pub settle_feature-requires : goal.settle_feature-requires
 settle_feature-requires c = (search rules, search known-below)
 
-pub returns-in-Known : goal.returns-in-Known
-returns-in-Known c = search known-settles
+pub returns-in-Some : goal.returns-in-Some
+returns-in-Some c = search known-settles
 
-pub returns-in-Unknown : goal.returns-in-Unknown
-returns-in-Unknown c = search unknown-settles
+pub returns-in-None : goal.returns-in-None
+returns-in-None c = search unknown-settles

@@ -1,22 +1,21 @@
-use Rattle.std.proofs.Common.{refl, arith, rules}
-use Rattle.dictionaries.proofs.Laws.{next-member-low}
-use Rattle.settling.proofs.Members.{going_start, going-room, going_on, going_end, going-never}
+use Rattle.std.proofs.Common.{◌≡◌, Ok, Some, None, rules}
+use Rattle.settling.proofs.Members.{going-room, going_on, going_end, going-ok}
 use Rattle.settling.proofs.settle_members.Goals as goal
 
-pub loop-m-init : goal.loop-m-init
-loop-m-init c = (refl, search going_start)
+pub unwrap-requires : goal.unwrap-requires
+unwrap-requires c = search going-ok
 
 pub settle_member-w-requires : goal.settle_member-w-requires
-settle_member-w-requires c = search going-room
-
-pub loop-m-smaller : goal.loop-m-smaller
-loop-m-smaller c = omega (arith, next-member-low)
+settle_member-w-requires c =
+    let e : c.next_member.result ≡ Ok (Some c.in-Some.m) = c.in-Some.ensures in
+    search going-room
 
 pub loop-m-preserved : goal.loop-m-preserved
-loop-m-preserved c = (search rules, search going_on)
+loop-m-preserved c =
+    let e : c.next_member.result ≡ Ok (Some c.in-Some.m) = c.in-Some.ensures in
+    (search rules, search going_on)
 
-pub returns-in-End : goal.returns-in-End
-returns-in-End c = search going_end
-
-pub returns-in-NotADictionary : goal.returns-in-NotADictionary
-returns-in-NotADictionary c = search going-never
+pub returns : goal.returns
+returns c =
+    let e : c.next_member.result ≡ Ok None = c.in_default.ensures in
+    search going_end

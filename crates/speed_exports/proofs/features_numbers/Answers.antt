@@ -2,8 +2,8 @@
 use Rattle.speed_exports.proofs.Answers.{features-told, features-refused}
 use Rattle.speed_exports.proofs.features_numbers.Goals as goal
 
-pub returns-in-Features : goal.returns-in-Features
-returns-in-Features c = search features-told
+pub returns-in-Ok : goal.returns-in-Ok
+returns-in-Ok c = search features-told
 
-pub returns-in-Refused : goal.returns-in-Refused
-returns-in-Refused c = search features-refused
+pub returns-in-Err : goal.returns-in-Err
+returns-in-Err c = search features-refused

@@ -5,8 +5,8 @@ use Rattle.speed_exports.proofs.listing_numbers.Goals as goal
 pub narrow-requires : goal.narrow-requires
 narrow-requires c = search listed-few
 
-pub returns-in-Count : goal.returns-in-Count
-returns-in-Count c = search listing-told
+pub returns-in-Ok : goal.returns-in-Ok
+returns-in-Ok c = search listing-told
 
-pub returns-in-Refused : goal.returns-in-Refused
-returns-in-Refused c = search listing-refused
+pub returns-in-Err : goal.returns-in-Err
+returns-in-Err c = search listing-refused

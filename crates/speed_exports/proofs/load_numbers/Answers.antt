@@ -8,5 +8,5 @@ returns-then-d c = search load-malformed
 pub returns-else-d : goal.returns-else-d
 returns-else-d c = search load-good
 
-pub returns-in-Refused : goal.returns-in-Refused
-returns-in-Refused c = search load-refused
+pub returns-in-Err : goal.returns-in-Err
+returns-in-Err c = search load-refused

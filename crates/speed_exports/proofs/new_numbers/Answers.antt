@@ -2,8 +2,5 @@
 use Rattle.speed_exports.proofs.Answers.{new_told, new-refused}
 use Rattle.speed_exports.proofs.new_numbers.Goals as goal
 
-pub returns-in-Ready : goal.returns-in-Ready
-returns-in-Ready c = search new_told
-
-pub returns-in-Refused : goal.returns-in-Refused
-returns-in-Refused c = search new-refused
+pub returns-in-Err : goal.returns-in-Err
+returns-in-Err c = search new-refused

@@ -2,5 +2,5 @@
 use Rattle.speed_exports.proofs.Codes.{tidy-refused}
 use Rattle.speed_exports.proofs.tidy_code.Goals as goal
 
-pub returns-in-Refused : goal.returns-in-Refused
-returns-in-Refused c = search tidy-refused
+pub returns-in-Err : goal.returns-in-Err
+returns-in-Err c = search tidy-refused

@@ -5,8 +5,8 @@ use Rattle.speed_exports.proofs.unload_numbers.Goals as goal
 pub narrow-requires : goal.narrow-requires
 narrow-requires c = search removed-few
 
-pub returns-in-Removed : goal.returns-in-Removed
-returns-in-Removed c = search unload-told
+pub returns-in-Ok : goal.returns-in-Ok
+returns-in-Ok c = search unload-told
 
-pub returns-in-Refused : goal.returns-in-Refused
-returns-in-Refused c = search unload-refused
+pub returns-in-Err : goal.returns-in-Err
+returns-in-Err c = search unload-refused

@@ -2,8 +2,8 @@
 use Rattle.tidying.proofs.Members.{member-none, member-all, member-list}
 use Rattle.tidying.proofs.add_member.Goals as goal
 
-pub returns-in-Undeclared : goal.returns-in-Undeclared
-returns-in-Undeclared c = search member-none
+pub returns-in_default : goal.returns-in_default
+returns-in_default c = search member-none
 
 pub returns-in-All : goal.returns-in-All
 returns-in-All c = search member-all

@@ -1,5 +1,0 @@
--- `back` is right: it puts together the two numbers that the definition does.
-use Rattle.features.proofs.back.Goals as goal
-
-pub returns : goal.returns
-returns c = cc
