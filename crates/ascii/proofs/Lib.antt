@@ -7,4 +7,4 @@ pub mod Suffixes
 pub mod Decimals
 mod Library
 pub mod DecimalReading
-mod Compares
+pub mod Compares

@@ -1,26 +1,21 @@
 -- What the library's functions answer, in the words of this crate's definitions. Assumes nothing.
-use mathlib.Core.Path.{◌≡◌, refl, ap, ◌∙◌, sym}
-use Prim.Native.Nat.{ℕ, suc, ◌+◌, ◌-◌, ◌≤◌, ◌<◌, min}
+use mathlib.Core.Path.{◌≡◌, refl, ap, ◌∙◌}
+use Prim.Native.Nat.{ℕ, suc, ◌+◌, ◌≤◌, ◌<◌}
 use mathlib.Core.List.{List, [], ◌∷◌}
 use mathlib.Core.Bool.{Bool, true, false, ◌&&◌}
 use mathlib.Core.Logic.{◌⊎◌, inl, inr}
 use native.Mathlib.Omega.{arith}
-use native.Mathlib.Numerals.{one-add}
-use Rattle.std.proofs.lemmas.List.Folds.{length-prefix_len}
-use Rattle.std.proofs.lemmas.List.Sums.{prefix_len-le-length}
-use lib.ListN.{length, get_or, take, drop, length-drop, get_or-eq_default}
-use lib.Seq.{drop-drop, take_all}
+use lib.ListN.{length, get_or, get_or-eq_default}
 use Rattle.std.proofs.Common.{Bor}
 use lib.Dec.{eqb, leb}
 use borrow.Author.Tests.{le-leb, lt-leb, leb-true, leb-false}
-use Rattle.std.specs.Prelude.{Option, Some, None, MatchOption, take_while, zip, slice_range, unwrap_or}
+use Rattle.std.specs.Prelude.{Option, Some, None, MatchOption, zip, slice_range, unwrap_or}
 use Rattle.std.specs.Char.{LowercasesTo}
-use Rattle.std.specs.List.{list_all, prefix_len}
+use Rattle.std.specs.List.{list_all}
 use Rattle.ascii.specs.Bytes.{pick, lower}
 use Rattle.ascii.specs.Texts.{same_by, part_of}
-use Rattle.ascii.specs.Reading.{past}
-use Rattle.ascii.specs.Places.{IsRun, IsByte}
-use Rattle.ascii.proofs.Reading.{place-drop, byte-in, byte-out}
+use Rattle.ascii.specs.Places.{IsByte}
+use Rattle.ascii.proofs.Reading.{byte-in, byte-out}
 use Rattle.ascii.proofs.Texts.{part-in, part_turned, part-over}
 
 pub lower-is : (b r : ℕ) → LowercasesTo b r → r ≡ lower b
@@ -54,32 +49,6 @@ lengths-differ f (x ∷ xs) (y ∷ ys) d = go (eqb (f x) y) (lengths-differ f xs
     go : (t : Bool) → false ≡ same_by f xs ys → false ≡ pick t (same_by f xs ys) false
     go true h = h
     go false h = refl
-
--- the front of a text that passes a test, and what stands past it
-pub past-drop : (p : ℕ → Bool) (l : List ℕ) → drop (prefix_len p l) l ≡ past p l
-unfolding past pick
-past-drop p [] = refl
-past-drop p (x ∷ xs) = go (p x) refl (past-drop p xs)
-  where
-    go : (t : Bool) → p x ≡ t → drop (prefix_len p xs) xs ≡ past p xs → drop (prefix_len p (x ∷ xs)) (x ∷ xs) ≡ pick t (past p xs) (x ∷ xs)
-    go true e h = simp (e, one-add) h
-    go false e h = rw e refl
-
-pub run-found : (p : ℕ → Bool) (s : List ℕ) (at from n : ℕ) → from ≡ min at (length s) → n ≡ length (take_while p (drop from s)) → IsRun p s at (from + n)
-run-found p s at from n e h =
-    let k : n ≡ prefix_len p (drop from s) = h ∙ length-prefix_len p (drop from s) in
-    let b : prefix_len p (drop from s) ≤ length (drop from s) = prefix_len-le-length p (drop from s) in
-    record {
-      is = sym (drop-drop n from s) ∙ (ap (λ (k : ℕ). drop k (drop from s)) k ∙ (past-drop p (drop from s) ∙ ap (past p) (place-drop s at from e)));
-      from = omega arith;
-      upto = omega (arith, length-drop from s);
-    }
-
--- the same, where the text is cut at its end
-pub run-in-rest : (p : ℕ → Bool) (s : List ℕ) (at from n : ℕ) → from ≡ min at (length s) → n ≡ length (take_while p (take (length s - from) (drop from s))) → IsRun p s at (from + n)
-run-in-rest p s at from n e h =
-    let k : length (drop from s) ≤ length s - from = omega (arith, length-drop from s) in
-    run-found p s at from n e (rw (take_all (length s - from) (drop from s) k) at h)
 
 -- what stands at a place, and 0 past the end
 pub byte-found : (s : List ℕ) (at r : ℕ) → r < 256 → r ≡ get_or s at 0 → IsByte s at r

@@ -62,6 +62,9 @@ module _ (p : ℕ → Bool) (s : List ℕ) (i : ℕ) (l : List ℕ) where
   unfolding past
   run_end h e = rw (drop_of_length-le s h) (rw (drop_of_length-le s h) at e)
 
+  pub run-whole : i ≤ length s → length s ≤ i → past p (drop i s) ≡ l → drop (length s) s ≡ l
+  run-whole g h e = let q : i ≡ length s = omega arith in rw q at (run_end h e)
+
   pub run_more : (b : Bool) → b ≡ p (get_or s i 0) → b ≡ true → i < length s → past p (drop i s) ≡ l → past p (drop (i + 1) s) ≡ l
   unfolding past pick
   run_more b u t h e = rw add-one (rw (drop-cons s i 0 h, ← u, t) at e)
@@ -69,6 +72,10 @@ module _ (p : ℕ → Bool) (s : List ℕ) (i : ℕ) (l : List ℕ) where
   pub run-stop : (b : Bool) → b ≡ p (get_or s i 0) → b ≡ false → i < length s → past p (drop i s) ≡ l → drop i s ≡ l
   unfolding past pick
   run-stop b u t h e = rw (drop-cons s i 0 h) (rw (drop-cons s i 0 h, ← u, t) at e)
+
+  -- the same of a number that is the place
+  pub run-stopped : (q : ℕ) → q ≡ i → (b : Bool) → b ≡ p (get_or s i 0) → b ≡ false → i < length s → past p (drop i s) ≡ l → drop q s ≡ l
+  run-stopped q same b u t h e = rw same (run-stop b u t h e)
 
 -- a place past the end is the end
 pub place-drop : (s : List ℕ) (at i : ℕ) → i ≡ min at (length s) → drop i s ≡ drop at s
@@ -81,7 +88,7 @@ place-drop s at i e = go (leb at (length s)) refl
 pub run-start : (p : ℕ → Bool) (s : List ℕ) (at i : ℕ) → i ≡ min at (length s) → past p (drop i s) ≡ past p (drop at s)
 run-start p s at i e = rw (place-drop s at i e)
 
-pub ruleset runs = (run-start, run_end, run_more, run-stop, rules)
+pub ruleset runs = (run-start, run_end, run-whole, run_more, run-stop, rules)
 
 -- a run whose first byte is known to be of its class
 pub run-from : (p : ℕ → Bool) (s : List ℕ) (i q : ℕ) → p (head_of (drop i s)) ≡ true → i < length s → drop q s ≡ past p (drop (i + 1) s) → drop q s ≡ past p (drop i s)

@@ -193,7 +193,7 @@ fn inherited_mask(
     t: &[u8],
     a: Arrival,
 ) -> u32 {
-    decisions::mask(|n| inherits(header, marks, allow, sandbox, n, t, a))
+    decisions::mask_by(|n| inherits(header, marks, allow, sandbox, n, t, a))
 }
 
 // A frame's forecast.
@@ -238,7 +238,7 @@ fn forecast(rt: &impl Print, line: &[u8]) -> io::Result<()> {
 
 // The number of the container's enabled features.
 fn enabled_mask(header: &[u8]) -> u32 {
-    decisions::mask(|n| asked(header, n))
+    decisions::mask_by(|n| asked(header, n))
 }
 
 fn case(rt: &impl Print, line: &[u8]) -> io::Result<()> {

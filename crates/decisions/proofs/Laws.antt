@@ -8,6 +8,8 @@ use native.Mathlib.Nat.{add_comm, mod-one, mod-lt, mod-eq_of_lt}
 use native.Mathlib.Omega.{arith}
 use lib.Pow.{mod-pow-add}
 use lib.Dec.{ltb, eqb}
+use lib.ListN.{get_or}
+use mathlib.Core.List.{List}
 use borrow.Author.Tests.{ltb-true, ltb-false}
 use Rattle.ascii.proofs.Clash.{clash}
 use Rattle.features.specs.Features.{Default, feature_count, default_of}
@@ -30,8 +32,9 @@ use Rattle.decisions.specs.Decisions.Decision.{disabled, enabled}
 use Rattle.decisions.specs.Masks.{bit_of, mask_below, mask_of, decision_at}
 use Rattle.decisions.specs.Policies.{Policy, Frame, value, inherited_framed, question, value_in, question_in, inherited_in, enabled_mask, forecast}
 use Rattle.decisions.specs.Widening.{Stays, WiderPolicy, WiderFrame}
-use Rattle.decisions.specs.Answers.{decision_in}
+use Rattle.decisions.specs.Answers.{decision_in, decisions_in}
 use Rattle.decisions.specs.declared.Decision.{Decision as Answer}
+use Rattle.decisions.specs.declared.Decision.TheVariants as answer
 use Rattle.decisions.proofs.Masks.{mask_lt, mask-bit, bits-past}
 
 -- the answer of `value`, told what a declared list answered, is *Value*
@@ -350,6 +353,10 @@ below-same p q (suc k) h = rw (below-same p q k (λ n lt. h n (omega arith)), h 
 
 pub mask-same : (p q : ℕ → Decision) → ((n : ℕ) → n < feature_count → p n ≡ q n) → mask_of p ≡ mask_of q
 mask-same p q h = below-same p q feature_count h
+
+-- the number that `mask` answers, by the decisions at its places
+pub mask-places : (l : List Answer) (p : ℕ → Decision) → ((n : ℕ) → n < feature_count → decision_in (get_or l n answer.Disabled) ≡ p n) → mask_of (decisions_in l) ≡ mask_of p
+mask-places l p h = mask-same (decisions_in l) p (λ n lt. unfold decisions_in in (h n lt))
 
 -- a number with no bit from 17 on is the number of its bits
 bit-read : (b : ℕ) → b < 2 → bit_of (decided (eqb b 1)) ≡ b

@@ -36,7 +36,13 @@ mask-left : (p : ℕ → Decision) (i : ℕ) → p i ≡ disabled → mask_below
 unfolding mask_below
 mask-left p i e = rw (add-one, e) (omega arith)
 
--- one turn of the loop
+-- one turn of the loop: no bit from the next one on, and the bits of the features so far
+pub bit-set : (r i q : ℕ) → r < 2 ^ i → i < feature_count → q ≡ bit_or r ((1 * 2 ^ i) % 4294967296) → q < 2 ^ (i + 1)
+bit-set r i q h lt is = rw (is, or-bit r i h (omega arith), add-one, pow-suc 2 i) (omega arith)
+
+pub bit-left : (r i q : ℕ) → r < 2 ^ i → q ≡ r → q < 2 ^ (i + 1)
+bit-left r i q h is = rw (is, add-one, pow-suc 2 i) (omega arith)
+
 module _ (p : ℕ → Decision) (r i q : ℕ) (so : r ≡ mask_below p i) where
   pub turn-enabled : i < feature_count → decision_in answer.Enabled ≡ p i → q ≡ bit_or r ((1 * 2 ^ i) % 4294967296) → q ≡ mask_below p (i + 1)
   turn-enabled lt e is = is ∙ rw so (mask-set p i (omega arith) (sym e))

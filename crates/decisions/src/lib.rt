@@ -1,14 +1,14 @@
 // Value, inherited and question of a feature, told what the lists answer; and the decisions of the seventeen features as one number.
 #![tactic(auto)]
 
-ghost use Rattle.std.specs.Prelude.{◌≡◌, ◌<◌, ℕ};
+ghost use Rattle.std.specs.Prelude.{◌≡◌, ◌<◌, ◌^◌, ℕ};
 ghost use Rattle.features.specs.Features.{feature_count};
 ghost use Rattle.decisions.specs.Decisions.{Decision as Rule};
 ghost use Rattle.decisions.specs.declared.Decision.{Decision};
 ghost use Rattle.features.specs.Answers.{default_in};
 ghost use Rattle.decisions.specs.Decisions.{decided, by_list, by_default, value_by, inherited_by, question_by};
 ghost use Rattle.decisions.specs.Masks.{mask_of, decision_at};
-ghost use Rattle.decisions.specs.Answers.{decision_in};
+ghost use Rattle.decisions.specs.Answers.{decision_in, decisions_in};
 
 use features::DefaultAllowlist;
 
@@ -100,9 +100,21 @@ pub fn question(
 }
 
 // The decisions of the seventeen features as one number: bit n for feature n, and no other bit.
-pub fn mask<F: Fn(u32) -> Decision>(decide: F) -> u32
+pub fn mask(decisions: [Decision; features::COUNT]) -> u32
+    ensures { result ≡ mask_of (decisions_in decisions) }
+{
+    mask_by(
+        |n: u32|
+            requires { n < feature_count }
+        { decisions[n as usize] },
+    )
+}
+
+// The same of what decides about each feature.
+pub fn mask_by<F: Fn(u32) -> Decision>(decide: F) -> u32
     requires { (n : ℕ) → n < feature_count → F.pre decide n }
-    ensures { (p : ℕ → Rule) → ((n : ℕ) (d : Decision) → n < feature_count → F.post decide n d → decision_in d ≡ p n) → result ≡ mask_of p }
+    ensures bits { (p : ℕ → Rule) → ((n : ℕ) (d : Decision) → n < feature_count → F.post decide n d → decision_in d ≡ p n) → result ≡ mask_of p }
+    ensures no_other { result < 2 ^ feature_count }
 {
     let mut r: u32 = 0;
     for n in 0..features::COUNT as u32 {

@@ -181,11 +181,16 @@ fn put_front(slot: &mut [u8], d: &NewDocument)
     requires { (slot_bytes ≤ length slot.old) × Fits d.now }
     ensures { slot.new ≡ front_put slot.old d.now }
 {
-    let above = &d.above[..NUMBER * d.depth as usize];
-    let text = &d.text[..d.length as usize];
+    // copies of the arrays: the compiler makes a call of `memmove` of a copy from behind the reference into the slot, which no archive needed before
+    let above = d.above;
+    let text = d.text;
     put_numbers(slot, d);
-    lent_bytes::put_text(slot, document_records::ABOVE, above);
-    lent_bytes::put_text(slot, document_records::OWN_TEXT, text);
+    lent_bytes::put_text(
+        slot,
+        document_records::ABOVE,
+        &above[..NUMBER * d.depth as usize],
+    );
+    lent_bytes::put_text(slot, document_records::OWN_TEXT, &text[..d.length as usize]);
 }
 
 // Settles a header into a slot; whether it was malformed, as one over the limit counts.

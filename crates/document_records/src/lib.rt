@@ -251,7 +251,7 @@ impl<'a> Slot<'a> {
             },
             declared,
         };
-        decisions::mask(
+        decisions::mask_by(
             |n: u32|
                 requires { n < feature_count }
             { arriving.inherits(policies[n as usize], n, frame.allow) },
@@ -303,7 +303,7 @@ impl<'a, 'o> Asked<'a, 'o> {
     fn enabled(&self) -> u32
         ensures { result ≡ mask_of (λ n. question_in (slot_policy self.now.slot.bytes.now) n (origin_in self.now.origin.text.now self.now.origin.range)) }
     {
-        decisions::mask(|n| self.question(n))
+        decisions::mask_by(|n| self.question(n))
     }
 }
 

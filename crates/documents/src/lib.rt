@@ -104,7 +104,7 @@ pub fn question(run: &[u8], serial: u32, feature: u32, origin: &[u8]) -> Result<
     }
     let table = Table { run };
     let Some(asked) = table.find(serial) else {
-        return Err(Refusal::NotLoaded);
+        return Err(Refusal::NotLoaded); // a closed document gets neither decision
     };
     if is_enabled(&table.slot(asked), feature, origin, said) {
         Ok(Decision::Enabled)

@@ -1,5 +1,5 @@
 -- An answer and its line feed have room behind those that wait. Assumes nothing.
-use Rattle.std.specs.Prelude.{Result, Ok, Err, IsErr, ⊤}
+use Rattle.std.specs.Prelude.{Result, Ok, Err, ⊤}
 use mathlib.Core.Path.{◌≡◌, refl, ap, sym, ◌∙◌}
 use Prim.Native.Nat.{ℕ, ◌+◌, ◌≤◌}
 use mathlib.Core.List.{List, [], ◌∷◌}
@@ -8,7 +8,7 @@ use Rattle.std.specs.Prelude.{Some, None}
 use native.Mathlib.Omega.{arith}
 use lib.ListN.{length, length-append}
 use lib.Dec.{ltb}
-use borrow.Author.Tests.{ltb-true, lt-ltb, le-ltb, clash as false_true}
+use borrow.Author.Tests.{ltb-true, lt-ltb, le-ltb}
 use Rattle.ascii.specs.Bytes.{pick}
 use Rattle.ascii.proofs.Clash.{clash}
 use Rattle.limits.specs.declared.Refusal.{Refusal}
@@ -23,7 +23,7 @@ use Rattle.replay_session.specs.Session.{line_answer, line_table}
 use Rattle.replay_session.specs.Answers.{line_bytes, Answers}
 use Rattle.documents.specs.Answers.{Valid, new_in, new_refusal, IsNew}
 use Rattle.replaying.specs.declared.Session.{Session}
-use Rattle.replaying.specs.Sessions.{out_bytes, Ready, line_read, answer_line, session_in, Ends, Replayed}
+use Rattle.replaying.specs.Sessions.{out_bytes, Ready, line_read, answer_line, Ends, Replayed}
 
 module _ (run u : List ℕ) (s : LineState) (waiting : ℕ) (l : Line) (texts before after last : List ℕ) (r to : ℕ) (ready : Ready run waiting) (long : length before ≡ out_bytes) (is : l ≡ line_read texts s)
     (a : Answers l run u before waiting after r) (p : Puts after r (10 ∷ []) last to) where
@@ -48,11 +48,6 @@ module _ (run u : List ℕ) (s : LineState) (waiting : ℕ) (l : Line) (texts be
 
   pub next-written : Ends run s waiting texts u before last (record { line = None; waiting = 0 })
   next-written = record { ready = record { valid = a.valid; room = omega arith }; table = left; bytes = bytes; answer = both.run; waits = λ z. absurd (z refl); line = λ x. refl }
-
-  -- the same where the write failed
-  pub next-failed : {E : Type 0} (q : Result Session E) → IsErr q → Ends run s waiting texts u before last (session_in q)
-  next-failed (Ok n) h = absurd (false_true h)
-  next-failed (Err e) h = next-written
 
 -- a new table that was made
 pub made-valid : (before after : List ℕ) (r : Result ⊤ Refusal) → IsNew before after r → r ≡ Ok tt → Valid after

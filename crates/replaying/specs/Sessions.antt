@@ -1,5 +1,5 @@
 -- What a session is between two lines, and what the end of a line does.
-use Rattle.std.specs.Prelude.{ℕ, ◌+◌, ◌≤◌, ◌<◌, ◌≡◌, List, [], ◌∷◌, ◌++◌, length, Option, Some, None, Result, Ok, Err}
+use Rattle.std.specs.Prelude.{ℕ, ◌+◌, ◌≤◌, ◌<◌, ◌≡◌, List, [], ◌∷◌, ◌++◌, length, Option, Some, None}
 use Rattle.writing.specs.Writing.{with_text}
 use Rattle.document_model.specs.Model.{Text}
 use Rattle.document_table.specs.Layout.{table_bytes, view}
@@ -34,12 +34,7 @@ abbrev pub line_begun : List ℕ → Option LineState → Reading
 line_begun texts None = new_reading
 line_begun texts (Some l) = reading_in texts l
 
--- the session that goes on; where the answers that wait couldn't be written it ends, with nothing left of it
-abbrev pub session_in : {E : Type 0} → Result Session E → Session
-session_in (Ok s) = s
-session_in (Err e) = record { line = None; waiting = 0 }
-
--- a line ends: its answer stands behind those that waited, and waits, or all were written; its table is the next line's; and the next line is new
+-- a line ends: its answer stands behind those that waited, and waits, or all were written or couldn't be; its table is the next line's; and the next line is new
 pub record Ends (run : List ℕ) (l : LineState) (waiting : ℕ) (texts left before after : List ℕ) (r : Session) : Type 0 where
   pub ready : Ready left r.waiting
   pub table : view left ≡ line_table (line_read texts l) (view run)

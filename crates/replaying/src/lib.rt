@@ -3,7 +3,7 @@
 
 ghost use Rattle.std.specs.Prelude.{IfOk};
 ghost use Rattle.documents.specs.Answers.{Valid};
-ghost use Rattle.replaying.specs.Sessions.{Ready, Ends, session_in, Replayed};
+ghost use Rattle.replaying.specs.Sessions.{Ready, Ends, Replayed};
 
 use ascii::{Only, Outside};
 use replay_lines::{LINE_BYTES, LineState};
@@ -28,32 +28,29 @@ fn tell(rt: &impl Eprint, failure: &str) {
     let _ = rt.eprintln(failure);
 }
 
-// A line ends: its call is made, and its answer put behind those that wait; these are written where the next might not have room. No line has begun then.
+// A line ends: its call is made, and its answer put behind those that wait; these are written where the next might not have room. No line has begun then. The session changes
+// in place: a line's state is some hundred bytes, too many to hand up with each result.
 fn end_line(
     rt: &impl Print,
     run: &mut [u8],
+    s: &mut Session,
     line: LineState,
-    waiting: usize,
     texts: &[u8; LINE_BYTES],
     out: &mut [u8; OUT_BYTES],
-) -> io::Result<Session>
-    requires { Ready run.old waiting }
-    ensures { Ends run.old line waiting texts.now run.new out.old out.new (session_in result) }
+) -> io::Result<()>
+    requires { Ready run.old s.old.waiting }
+    ensures { Ends run.old line s.old.waiting texts.now run.new out.old out.new s.new }
 {
     let call = replay_lines::call(line, texts);
-    let at = replay_session::answer(run, call, texts, out, waiting);
+    let at = replay_session::answer(run, call, texts, out, s.waiting);
     let to = writing::put_byte(out, at, b'\n');
+    s.line = None;
     if replay_answers::has_room(out, to) {
-        return Ok(Session {
-            line: None,
-            waiting: to,
-        });
+        s.waiting = to;
+        return Ok(());
     }
-    rt.write_all(ascii::part(out, 0, to))?;
-    Ok(Session {
-        line: None,
-        waiting: 0,
-    })
+    s.waiting = 0;
+    rt.write_all(ascii::part(out, 0, to))
 }
 
 // A piece of the input: lines, the last perhaps to be continued.
@@ -74,10 +71,14 @@ fn take_piece(
     // not a `for` over `split_inclusive`: today's check takes no invariant for one whose iterator holds a closure
     while from < piece.len() {
         let to = ascii::run_end(piece, from, Outside(Only(b'\n')));
-        let begun = next.line.unwrap_or(replay_lines::new_line());
+        // no `unwrap_or`: a new line's state would be made for a line that goes on too
+        let begun = match next.line {
+            Some(line) => line,
+            None => replay_lines::new_line(),
+        };
         let line = replay_lines::read(begun, ascii::part(piece, from, to), texts);
         if to < piece.len() {
-            next = end_line(rt, run, line, next.waiting, texts, out)?;
+            end_line(rt, run, &mut next, line, texts, out)?;
         } else {
             next.line = Some(line);
         }
@@ -99,7 +100,7 @@ fn finish(
 {
     let mut last = s;
     if let Some(line) = s.line {
-        last = end_line(rt, run, line, s.waiting, texts, out)?;
+        end_line(rt, run, &mut last, line, texts, out)?;
     }
     rt.write_all(ascii::part(out, 0, last.waiting))
 }

@@ -1,19 +1,14 @@
 -- Writing at a place, and expressions as bytes. Assumes nothing.
 use mathlib.Core.Path.{◌≡◌, refl, ap, ◌∙◌, sym}
-use Prim.Native.Nat.{ℕ, ◌+◌, ◌*◌, ◌/◌, ◌%◌, ◌-◌, ◌≤◌, ◌<◌}
+use Prim.Native.Nat.{ℕ, ◌+◌, ◌*◌, ◌/◌, ◌%◌, ◌≤◌, ◌<◌}
 use Rattle.std.specs.Prelude.{Option, Some, None}
 use mathlib.Core.List.{List, [], ◌∷◌, ◌++◌, append_assoc, append-nil}
-use mathlib.Core.Bool.{Bool, true, false}
-use lib.Dec.{leb}
-use borrow.Author.Tests.{leb-true, leb-false}
 use native.Mathlib.Omega.{arith}
-use lib.ListN.{length, get_or, take, drop, length-append, length-drop, take-append-drop}
-use lib.Seq.{drop-drop, take_at, drop_at, take-append_seam, drop-append_seam, length-take-le}
+use native.Mathlib.Numerals.{add-one}
+use lib.ListN.{length, get_or, take, drop, set, length-append, length-set, length-drop, take-append-drop}
+use lib.Seq.{take-suc, take-suc-set, drop-set-lt, take_all, drop-drop, take_at, drop_at, take-append_seam, drop-append_seam, length-take-le}
 use Rattle.ascii.specs.Bytes.{pick, lower}
 use Rattle.ascii.specs.Texts.{each, lowered, part_in}
-use Rattle.std.specs.Prelude.{map}
-use Rattle.std.specs.Char.{to_ascii_lowercase}
-use Rattle.std.proofs.lemmas.Str.Ascii.{lowercase_is}
 use Rattle.origins.specs.Expressions.{HostPart, SourceExpression}
 use Rattle.origins.specs.Expressions.HostPart.{no_host, any_host, exact_host, subdomains_of}
 use Rattle.origins.specs.Answers.{host_kind, host_in, expression_in}
@@ -71,36 +66,32 @@ wrote-is l m t at r w =
     sym (take-append-drop r m)
     ∙ (ap (λ (z : List ℕ). z ++ drop r m) w.front ∙ (ap (λ (z : List ℕ). (take at l ++ t) ++ z) w.back ∙ (rw w.end (append_assoc (take at l) t (drop (at + length t) l)))))
 
--- a text in lower case
-lower-is : (x : ℕ) → to_ascii_lowercase x ≡ lower x
-unfolding lower pick
-lower-is x = go (leb 65 x) refl (leb x 90) refl
-  where
-    go : (a : Bool) → leb 65 x ≡ a → (b : Bool) → leb x 90 ≡ b → to_ascii_lowercase x ≡ lower x
-    go true u true v = rw (u, v) ((lowercase_is x).0 (leb-true 65 x u, leb-true x 90 v))
-    go true u false v = rw (u, v) ((lowercase_is x).2 (leb-false x 90 v))
-    go false u b v = rw u ((lowercase_is x).1 (leb-false 65 x u))
+-- one byte
+wrote-byte : (l : List ℕ) (at v : ℕ) → at < length l → Wrote l at (v ∷ []) (set l at v) (at + 1)
+wrote-byte l at v h = record { end = refl; front = rw add-one (take-suc-set l at v h); back = drop-set-lt (at + 1) l at v (omega arith); long = length-set l at v }
 
-lowered-map : (t : List ℕ) → map to_ascii_lowercase t ≡ lowered t
+-- a text in lower case, byte by byte
+each_append : (f : ℕ → ℕ) (a b : List ℕ) → each f (a ++ b) ≡ each f a ++ each f b
 unfolding each
-lowered-map [] = refl
-lowered-map (x ∷ xs) = λ j. lower-is x j ∷ lowered-map xs j
+each_append f [] b = refl
+each_append f (x ∷ xs) b = ap (λ (l : List ℕ). f x ∷ l) (each_append f xs b)
 
-pub wrote-lowered : (l t m : List ℕ) (at k to : ℕ) (u : List ℕ) → Wrote l at t m to → at + length t ≤ length l → k ≡ to - at → u ≡ map to_ascii_lowercase (take k (drop at m)) → Wrote l at (lowered t) (take at m ++ (u ++ drop k (drop at m))) to
-wrote-lowered l t m at k to u w h e f =
-    let a = take at l in
-    let r = drop (at + length t) l in
-    let n : length a ≡ at = length-take-le at l (omega arith) in
-    let z : to ≡ at + length t = w.end in
-    let i : k ≡ length t = omega arith in
-    let b : m ≡ a ++ (t ++ r) = wrote-is l m t at to w in
-    let c : drop at m ≡ t ++ r = ap (drop at) b ∙ drop_at a (t ++ r) at n in
-    let d : take at m ≡ a = ap (take at) b ∙ take_at a (t ++ r) at n in
-    let o : take k (t ++ r) ≡ t = take_at t r k (sym i) in
-    let q : drop k (t ++ r) ≡ r = drop_at t r k (sym i) in
-    let v : u ≡ lowered t = (rw (c, o) at f) ∙ lowered-map t in
-    let g : at + length (lowered t) ≡ at + length t = omega (arith, each-length lower t) in
-    rw (c, d, q, v, z) (rw g at (wrote-parts l (lowered t) at (omega arith)))
+pub low-start : (l : List ℕ) (at : ℕ) (t : List ℕ) → Wrote l at (lowered (take 0 t)) l (at + 0)
+unfolding each
+low-start l at t = let e : at + 0 ≡ at = omega arith in rw e (wrote_none l at)
+
+pub low-more : (l m : List ℕ) (at : ℕ) (t : List ℕ) (j x : ℕ) → j < length t → at + length t ≤ length l → x ≡ lower (get_or t j 0) → Wrote l at (lowered (take j t)) m (at + j) → Wrote l at (lowered (take (j + 1) t)) (set m (at + j) x) (at + (j + 1))
+low-more l m at t j x h g e u =
+    let i : at + j + 1 ≡ at + (j + 1) = omega arith in
+    let v : Wrote m (at + j) (x ∷ []) (set m (at + j) x) (at + (j + 1)) = rw i at (wrote-byte m (at + j) x (omega (arith, u.long))) in
+    let w : lowered (take j t) ++ (x ∷ []) ≡ lowered (take (j + 1) t) = rw (add-one, take-suc t j 0 h, each_append lower (take j t) (get_or t j 0 ∷ []), e) (unfold each in refl) in
+    wrote_as l (set m (at + j) x) at (at + (j + 1)) (lowered (take j t) ++ (x ∷ [])) (lowered (take (j + 1) t)) w (wrote_on l m (set m (at + j) x) at (at + j) (at + (j + 1)) (lowered (take j t)) (x ∷ []) u v)
+
+pub low-all : (l m : List ℕ) (at : ℕ) (t : List ℕ) (j : ℕ) → j ≤ length t → length t ≤ j → Wrote l at (lowered (take j t)) m (at + j) → Wrote l at (lowered t) m (at + length t)
+low-all l m at t j low high u =
+    let q : j ≡ length t = omega arith in
+    let w : Wrote l at (lowered (take (length t) t)) m (at + length t) = rw q at u in
+    rw (take_all (length t) t (omega arith)) at w
 
 kind-back : (k : Option HostKind) (h : List ℕ) → host_kind (host_in k h) ≡ k
 kind-back None h = refl

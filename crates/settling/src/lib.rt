@@ -73,14 +73,15 @@ fn put(d: &mut [u8], at: usize, t: &[u8]) -> usize
     to
 }
 
-// Writes a text at a place, in lower case.
+// Writes a text at a place, in lower case: byte by byte, since the compiler makes a call of `memmove` of the library's copy between two parts of lent memory, which no archive needed before.
 fn put_lowered(d: &mut [u8], at: usize, t: &[u8]) -> usize
     requires { at + length t.now ≤ length d.old }
     ensures { Wrote d.old at (lowered t.now) d.new result }
 {
-    let to = put(d, at, t);
-    d[at..to].make_ascii_lowercase();
-    to
+    for j in 0..t.len() {
+        d[at + j] = ascii::lower(t[j]);
+    }
+    at + t.len()
 }
 
 // The parts of an expression as numbers of the settled form. No `From`: the types are those of origins, which knows no settled form.

@@ -1,4 +1,4 @@
--- The laws of texts put into a run, for the crates above, which open no definition of this crate: here, and in Places (a text put at a place is read back, and elsewhere nothing changes). Assumes nothing.
+-- The laws of texts put into a run, for the crates above, which open no definition of this crate: here, in Places (a text put at a place is read back, and elsewhere nothing changes), and of Copies `one_byte`. Assumes nothing.
 use mathlib.Core.Path.{◌≡◌, refl, ap, ◌∙◌, sym}
 use Prim.Native.Nat.{ℕ, ◌+◌, ◌/◌, ◌%◌, ◌≤◌, ◌<◌}
 use mathlib.Core.List.{List, [], ◌∷◌, ◌++◌}

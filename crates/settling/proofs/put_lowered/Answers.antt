@@ -1,7 +1,12 @@
--- `put_lowered` is right: what was put is turned to lower case where it stands.
-use Rattle.std.proofs.Common.{refl}
-use Rattle.settling.proofs.Writes.{wrote-lowered}
+use Rattle.std.proofs.Common.{rules, refl}
+use Rattle.settling.proofs.Writes.{low-start, low-more, low-all}
 use Rattle.settling.proofs.put_lowered.Goals as goal
 
+pub loop-j-init : goal.loop-j-init
+loop-j-init c = (refl, search low-start)
+
+pub loop-j-preserved : goal.loop-j-preserved
+loop-j-preserved c = (search rules, search low-more)
+
 pub returns : goal.returns
-returns c = wrote-lowered _ c.args.t.now _ _ _ _ _ c.put-to.ensures c.requires refl c.make_ascii_lowercase.ensures.after
+returns c = search low-all

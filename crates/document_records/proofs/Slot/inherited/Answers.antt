@@ -8,6 +8,6 @@ pub returns : goal.returns
 returns c =
     inherited-is _ _ _ _ _ _ _ _ _ _
     (ap slot_policy c.asked_at_own-own.ensures.slot)
-    c.mask.ensures
+    c.mask_by.ensures.bits
     (λ n d lt e. search rules)
     c.container_policies-policies.ensures
